@@ -1,0 +1,6 @@
+pub mod Lists
+pub mod Table
+pub mod Arms
+pub mod Passes
+pub mod Sign
+pub mod Order

@@ -1,0 +1,14 @@
+-- Lists by their places. Definitions only.
+use Prim.Native.Nat.{ℕ, zero, suc}
+use mathlib.Core.Bool.{Bool, cond}
+use mathlib.Core.List.{List, [], _∷_}
+
+-- f 0, f 1, .. : n of them
+unfoldable pub tab : {A : Type 0} → ℕ → (ℕ → A) → List A
+tab zero f = []
+tab (suc n) f = f 0 ∷ tab n (λ k. f (suc k))
+
+-- the place of the first that does not pass the test, or the length where all pass
+unfoldable pub first : {A : Type 0} → (A → Bool) → List A → ℕ
+first p [] = zero
+first p (x ∷ xs) = cond (p x) (suc (first p xs)) zero
