@@ -1,0 +1,57 @@
+-- `config::row` meets its contract: each arm is the definition's entry, and the last arm is none of them. Written by tools/tables.
+-- Assumes nothing.
+use mathlib.Core.Path.{refl}
+use lib.ListN.{List·getD-eq-default}
+use borrow.Author.Needs.{needs}
+use Rattle.laws.proofs.Arms.{others-le}
+use Rattle.config.specs.Tables.{rows}
+use Rattle.config.specs.Config.{row, none}
+use Rattle.config.proofs.tables.row.Statement.{statement}
+use Rattle.config.proofs.tables.row.Tie as tie
+
+returns : tie.Need-returns
+unfolding row rows
+returns c = search needs
+
+returns-2 : tie.Need-returns-2
+unfolding row rows
+returns-2 c = search needs
+
+returns-3 : tie.Need-returns-3
+unfolding row rows
+returns-3 c = search needs
+
+returns-4 : tie.Need-returns-4
+unfolding row rows
+returns-4 c = search needs
+
+returns-5 : tie.Need-returns-5
+unfolding row rows
+returns-5 c = search needs
+
+returns-6 : tie.Need-returns-6
+unfolding row rows
+returns-6 c = search needs
+
+returns-7 : tie.Need-returns-7
+unfolding row rows
+returns-7 c = search needs
+
+returns-8 : tie.Need-returns-8
+unfolding row rows
+returns-8 c = search needs
+
+returns-9 : tie.Need-returns-9
+unfolding row rows
+returns-9 c = search needs
+
+returns-10 : tie.Need-returns-10
+unfolding row rows
+returns-10 c = search needs
+
+returns-11 : tie.Need-returns-11
+unfolding row rows
+returns-11 c = rw (List·getD-eq-default rows none (others-le 10 (c .before .args .c) (c .match .rest))) (refl, refl, refl, refl, refl, refl, refl)
+
+pub row-spec : {M : Type 1} → statement M
+row-spec = tie.close (tie.spec returns returns-2 returns-3 returns-4 returns-5 returns-6 returns-7 returns-8 returns-9 returns-10 returns-11)

@@ -1,0 +1,50 @@
+-- Document 01's refusal numbers by name, in the order in which they are tested. Definitions only.
+use Prim.Native.Nat.{ℕ}
+
+-- "0 is acceptance"
+abbrev pub accepted : ℕ
+accepted = 0
+
+-- "configuration above 9"
+abbrev pub badConfig : ℕ
+badConfig = 1
+
+-- "FFT size or DCT length not of the table above"
+abbrev pub badSize : ℕ
+badSize = 2
+
+-- "an input slice (or the DCT's buffer) of another length than required"
+abbrev pub badInput : ℕ
+badInput = 3
+
+-- "an output slice of another length"
+abbrev pub badOutput : ℕ
+badOutput = 4
+
+-- "energies of another length than nb (loudest band, which isn't told the configuration: than 60 or 64)"
+abbrev pub badEnergies : ℕ
+badEnergies = 5
+
+-- "a line, DCT value or FFT part not finite, or above 2^60 in magnitude; gives the first such index"
+abbrev pub badValue : ℕ
+badValue = 6
+
+-- "an energy handed in that is not finite or below zero; gives the first such index (-0.0 counts as zero)"
+abbrev pub badEnergy : ℕ
+badEnergy = 7
+
+-- "frame file shorter than 6 bytes"
+abbrev pub shortFile : ℕ
+shortFile = 8
+
+-- "mark wrong"
+abbrev pub badMark : ℕ
+badMark = 9
+
+-- "version not 1"
+abbrev pub badVersion : ℕ
+badVersion = 10
+
+-- "last frame of the file cut"
+abbrev pub cutFrame : ℕ
+cutFrame = 11

@@ -1,0 +1,4 @@
+pub mod Look
+pub mod Sizes
+pub mod Entries
+pub mod Turns

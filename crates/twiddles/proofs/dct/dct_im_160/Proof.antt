@@ -1,0 +1,14 @@
+-- `twiddles::dct_im_160` meets its contract: the code's table is the definition's part, by computation. Written by tools/tables.
+-- Assumes nothing.
+use mathlib.Core.Path.{refl}
+use Rattle.twiddles.specs.Tables.{sizes, dctImBits}
+use Rattle.twiddles.specs.Twiddles.{start, dctIm}
+use Rattle.twiddles.proofs.dct.dct_im_160.Statement.{statement}
+use Rattle.twiddles.proofs.dct.dct_im_160.Tie as tie
+
+returns : tie.Need-returns
+unfolding sizes dctImBits start dctIm
+returns c = refl
+
+pub dct-im-160-spec : {M : Type 1} → statement M
+dct-im-160-spec = tie.close (tie.spec returns)

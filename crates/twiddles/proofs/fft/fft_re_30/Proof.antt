@@ -1,0 +1,14 @@
+-- `twiddles::fft_re_30` meets its contract: the code's table is the definition's part, by computation. Written by tools/tables.
+-- Assumes nothing.
+use mathlib.Core.Path.{refl}
+use Rattle.twiddles.specs.Tables.{sizes, fftReBits}
+use Rattle.twiddles.specs.Twiddles.{start, fftRe}
+use Rattle.twiddles.proofs.fft.fft_re_30.Statement.{statement}
+use Rattle.twiddles.proofs.fft.fft_re_30.Tie as tie
+
+returns : tie.Need-returns
+unfolding sizes fftReBits start fftRe
+returns c = refl
+
+pub fft-re-30-spec : {M : Type 1} → statement M
+fft-re-30-spec = tie.close (tie.spec returns)

@@ -1,0 +1,4 @@
+pub mod Twiddles
+pub mod Tables
+pub mod Circle
+pub mod Turns

@@ -1,0 +1,64 @@
+-- The twiddles of each FFT size and the gain of each length, as the Rust computes them (kissfft.rs, dct_iv.rs, modified_dct.rs). Definitions only.
+use mathlib.Core.Bool.{Bool, true, false, cond}
+use mathlib.Core.List.{List, [], _∷_, map}
+use Prim.Native.Nat.{ℕ, _+_, _*_}
+use lib.Dec.{ltb, eqb}
+use lib.ListN.{take, drop}
+use lib.Ieee.{Float, binary32, ofBits, neg}
+use Rattle.complex.specs.declared.Complex.{Complex}
+use Rattle.complex.specs.Complex.{at}
+use Rattle.twiddles.specs.Tables.{sizes, fftReBits, fftImBits, dctReBits, dctImBits, gainBits}
+
+-- the sum of the sizes below n
+abbrev pub below : List ℕ → ℕ → ℕ
+below [] n = 0
+below (m ∷ ms) n = cond (ltb m n) m 0 + below ms n
+
+-- where the twiddles of size n start in a table of all: after those of the smaller sizes
+unfoldable pub start : ℕ → ℕ
+start n = below sizes n
+
+-- the numbers of size n, from a table of all as bits
+abbrev pub part : List ℕ → ℕ → List Float
+part bits n = map (ofBits binary32) (take n (drop (start n) bits))
+
+-- "FFT twiddle i of n: cosine and sine of -2πi/n in f64, then to f32", the parts as two lists
+unfoldable pub fftRe : ℕ → List Float
+fftRe n = part fftReBits n
+
+unfoldable pub fftIm : ℕ → List Float
+fftIm n = part fftImBits n
+
+-- "The inverse table negates each imaginary part."
+unfoldable pub fftImOf : Bool → ℕ → List Float
+fftImOf false n = fftIm n
+fftImOf true n = map neg (fftIm n)
+
+-- FFT twiddle k of n, forward or inverse
+unfoldable pub twiddle : ℕ → Bool → ℕ → Complex
+twiddle n inverse k = at (fftRe n) (fftImOf inverse n) k
+
+-- "DCT twiddle i of c = nf/2: angle -π(8i+1)/(16c)", the parts as two lists
+unfoldable pub dctRe : ℕ → List Float
+dctRe n = part dctReBits n
+
+unfoldable pub dctIm : ℕ → List Float
+dctIm n = part dctImBits n
+
+-- DCT twiddle k of n
+unfoldable pub dctTwiddle : ℕ → ℕ → Complex
+dctTwiddle n k = at (dctRe n) (dctIm n) k
+
+-- the DCT's lengths, in the order of the sizes
+abbrev pub lengths : List ℕ
+lengths = map (λ (n : ℕ). 2 * n) sizes
+
+-- what stands in the second list where the first has n, and 0 where it does not
+abbrev pub look : List ℕ → List ℕ → ℕ → ℕ
+look [] bs n = 0
+look (m ∷ ms) [] n = 0
+look (m ∷ ms) (b ∷ bs) n = cond (eqb m n) b (look ms bs n)
+
+-- "Gain: 1 divided by the f32 square root of 2·nf"; 0.0 for a length that no configuration has
+unfoldable pub gain : ℕ → Float
+gain nf = ofBits binary32 (look lengths gainBits nf)

@@ -1,0 +1,59 @@
+// The twiddles of the FFT and of the DCT-IV, and the gains.
+// New: src/common/kissfft.rs, src/common/dct_iv.rs and the two modified_dct.rs of lc3-codec 0.2.0 compute these values, and a run of them gave
+// these tables.
+ghost use mathlib.Core.Path.{_≡_};
+ghost use mathlib.Core.List.{map};
+ghost use lib.Ieee.{neg};
+
+mod fft; // fft.rt: the FFT's twiddles
+mod dct; // dct.rt: the DCT's twiddles
+mod gains; // gains.rt: the gains
+
+pub use dct::dct_im_30;
+pub use dct::dct_im_40;
+pub use dct::dct_im_60;
+pub use dct::dct_im_80;
+pub use dct::dct_im_90;
+pub use dct::dct_im_120;
+pub use dct::dct_im_160;
+pub use dct::dct_im_180;
+pub use dct::dct_im_240;
+pub use dct::dct_re_30;
+pub use dct::dct_re_40;
+pub use dct::dct_re_60;
+pub use dct::dct_re_80;
+pub use dct::dct_re_90;
+pub use dct::dct_re_120;
+pub use dct::dct_re_160;
+pub use dct::dct_re_180;
+pub use dct::dct_re_240;
+pub use fft::fft_im_30;
+pub use fft::fft_im_40;
+pub use fft::fft_im_60;
+pub use fft::fft_im_80;
+pub use fft::fft_im_90;
+pub use fft::fft_im_120;
+pub use fft::fft_im_160;
+pub use fft::fft_im_180;
+pub use fft::fft_im_240;
+pub use fft::fft_re_30;
+pub use fft::fft_re_40;
+pub use fft::fft_re_60;
+pub use fft::fft_re_80;
+pub use fft::fft_re_90;
+pub use fft::fft_re_120;
+pub use fft::fft_re_160;
+pub use fft::fft_re_180;
+pub use fft::fft_re_240;
+pub use gains::gain;
+
+// Entry. Every number gets the other sign: what the inverse FFT does to its imaginary parts.
+pub fn negate(im: &mut [f32])
+    ensures { λ _. ⌜ now (im .exit) ≡ map neg (now (im .entry)) ⌝ }
+{
+    let mut k = 0usize;
+    while k < im.len() {
+        im[k] = -im[k];
+        k += 1usize;
+    }
+}

@@ -1,0 +1,311 @@
+//! The Rust's side of the bench: reads a log of calls on standard input, runs lc3-codec on each, and prints what it answers.
+//! Refusals, the loudest band and channels that came from no clear are decided here, from the paper's text.
+//! `crate::common`, `encoder`, `decoder` and `tables` are lc3-codec's own files, unchanged.
+
+mod log;
+
+use crate::common::complex::Complex;
+use crate::common::config::{FrameDuration, Lc3Config, SamplingFrequency};
+use crate::common::dct_iv::DiscreteCosTransformIv;
+use crate::common::kissfft::KissFastFourierTransform;
+use crate::{decoder, encoder};
+use log::{Call, Log, ROOM};
+use std::io::{self, Read, Write};
+
+const LIMIT: f32 = (1u64 << 60) as f32;
+
+/// A refusal's number and index; 0 is acceptance.
+type Verdict = (u8, usize);
+const ACCEPTED: Verdict = (0, 0);
+
+fn config(number: u8) -> Option<Lc3Config> {
+    use FrameDuration::*;
+    use SamplingFrequency::*;
+    let rates = [Hz8000, Hz16000, Hz24000, Hz32000, Hz48000];
+    match number {
+        0..=4 => Some(Lc3Config::new(rates[number as usize], SevenPointFiveMs)),
+        5..=9 => Some(Lc3Config::new(rates[number as usize - 5], TenMs)),
+        _ => None,
+    }
+}
+
+fn all_configs() -> impl Iterator<Item = Lc3Config> {
+    (0..=9).filter_map(config)
+}
+
+/// The first place that does not pass a test.
+fn first_failing(values: &[f32], passes: impl Fn(f32) -> bool) -> Option<usize> {
+    values.iter().position(|&x| !passes(x))
+}
+
+fn passes_6(x: f32) -> bool {
+    x.is_finite() && x.abs() <= LIMIT
+}
+
+fn passes_7(x: f32) -> bool {
+    x.is_finite() && !(x < 0.0)
+}
+
+/// What an output area holds before a call.
+fn area(length: usize) -> Vec<f32> {
+    (0..length).map(|i| i as f32 + 0.5).collect()
+}
+
+/// The analysis channel: the time buffer that lc3-codec keeps, and the array as the port shows it.
+struct Analysis {
+    config: u8,
+    samples: [i16; ROOM],
+    time: Vec<i16>,
+}
+
+impl Analysis {
+    fn set(number: u8, samples: [i16; ROOM]) -> Self {
+        let mut time = Vec::new();
+        if let Some(c) = config(number) {
+            time.resize(2 * c.nf, 0);
+            time[c.nf..2 * c.nf - c.z].copy_from_slice(&samples[..c.nf - c.z]);
+        }
+        Analysis { config: number, samples, time }
+    }
+
+    fn frame(&mut self, input: &[i16], lines: &mut [f32], energies: &mut [f32]) -> (Verdict, bool) {
+        let Some(c) = config(self.config) else {
+            return ((1, 0), false);
+        };
+        if input.len() != c.nf {
+            return ((3, 0), false);
+        }
+        if lines.len() != c.nf {
+            return ((4, 0), false);
+        }
+        if energies.len() != c.nb {
+            return ((5, 0), false);
+        }
+        let mut work = vec![Complex::default(); DiscreteCosTransformIv::calc_working_buffer_length(&c)];
+        let (mut mdct, _, _) = encoder::modified_dct::ModDiscreteCosTrans::new(c, &mut self.time, &mut work);
+        let flag = mdct.run(input, lines, energies);
+        self.samples = [0; ROOM];
+        self.samples[..c.nf - c.z].copy_from_slice(&self.time[c.nf..2 * c.nf - c.z]);
+        (ACCEPTED, flag)
+    }
+}
+
+/// The synthesis channel: lc3-codec's own buffer, whose first places are the memory, and the array as the port shows it.
+struct Synthesis {
+    config: u8,
+    memory: [f32; ROOM],
+    buffer: Vec<f32>,
+}
+
+impl Synthesis {
+    fn set(number: u8, memory: [f32; ROOM]) -> Self {
+        let mut buffer = Vec::new();
+        if let Some(c) = config(number) {
+            let (length, _) = decoder::modified_dct::ModDiscreteCosTrans::calc_working_buffer_length(&c);
+            buffer.resize(length, 0.0);
+            buffer[..c.nf - c.z].copy_from_slice(&memory[..c.nf - c.z]);
+        }
+        Synthesis { config: number, memory, buffer }
+    }
+
+    fn frame(&mut self, lines: &[f32], samples: &mut [f32]) -> Verdict {
+        let Some(c) = config(self.config) else {
+            return (1, 0);
+        };
+        if lines.len() != c.ne {
+            return (3, 0);
+        }
+        if samples.len() != c.nf {
+            return (4, 0);
+        }
+        if let Some(place) = first_failing(lines, passes_6) {
+            return (6, place);
+        }
+        let mut work = vec![Complex::default(); DiscreteCosTransformIv::calc_working_buffer_length(&c)];
+        let (mut mdct, _, _) = decoder::modified_dct::ModDiscreteCosTrans::new(c, &mut self.buffer, &mut work);
+        mdct.run(lines, samples);
+        self.memory = [0.0; ROOM];
+        self.memory[..c.nf - c.z].copy_from_slice(&self.buffer[..c.nf - c.z]);
+        ACCEPTED
+    }
+}
+
+fn fft(size: usize, inverse: bool, re: &[f32], im: &[f32], re_out: &mut [f32], im_out: &mut [f32]) -> Verdict {
+    if !all_configs().any(|c| c.nf / 2 == size) {
+        return (2, 0);
+    }
+    if re.len() != size || im.len() != size {
+        return (3, 0);
+    }
+    if re_out.len() != size || im_out.len() != size {
+        return (4, 0);
+    }
+    if let Some(place) = (0..size).find(|&k| !passes_6(re[k]) || !passes_6(im[k])) {
+        return (6, place);
+    }
+    let mut twiddles = vec![Complex::default(); size];
+    let (transform, _) = KissFastFourierTransform::new(size, inverse, &mut twiddles);
+    let input: Vec<Complex> = re.iter().zip(im).map(|(&r, &i)| Complex::new(r, i)).collect();
+    let mut output = vec![Complex::default(); size];
+    transform.transform(&input, &mut output);
+    for (k, c) in output.iter().enumerate() {
+        re_out[k] = c.r;
+        im_out[k] = c.i;
+    }
+    ACCEPTED
+}
+
+fn dct(length: usize, buffer: &mut [f32]) -> Verdict {
+    if !all_configs().any(|c| c.nf == length) {
+        return (2, 0);
+    }
+    if buffer.len() != length {
+        return (3, 0);
+    }
+    if let Some(place) = first_failing(buffer, passes_6) {
+        return (6, place);
+    }
+    let mut work = vec![Complex::default(); length * 2];
+    let (mut transform, _) = DiscreteCosTransformIv::new(length, &mut work);
+    transform.run(buffer);
+    ACCEPTED
+}
+
+/// The first band with the greatest energy, where one is above zero.
+fn loudest(energies: &[f32]) -> (Verdict, Option<usize>) {
+    if !all_configs().any(|c| c.nb == energies.len()) {
+        return ((5, 0), None);
+    }
+    if let Some(place) = first_failing(energies, passes_7) {
+        return ((7, place), None);
+    }
+    let greatest = energies.iter().fold(0.0, |g: f32, &e| if e > g { e } else { g });
+    let band = energies.iter().position(|&e| e == greatest);
+    (ACCEPTED, band.filter(|_| greatest > 0.0))
+}
+
+fn spelled(x: f32) -> String {
+    if x.is_nan() {
+        "nan".to_string()
+    } else {
+        format!("{:08x}", x.to_bits())
+    }
+}
+
+/// An area's line: its name and its places.
+fn show(out: &mut impl Write, name: &str, places: impl Iterator<Item = String>) -> io::Result<()> {
+    write!(out, "{name}")?;
+    for place in places {
+        write!(out, " {place}")?;
+    }
+    writeln!(out)
+}
+
+fn show_floats(out: &mut impl Write, name: &str, places: &[f32]) -> io::Result<()> {
+    show(out, name, places.iter().map(|&x| spelled(x)))
+}
+
+fn padded<T: Copy>(values: &[T], zero: T) -> [T; ROOM] {
+    let mut array = [zero; ROOM];
+    array[..values.len()].copy_from_slice(values);
+    array
+}
+
+/// Both channels, and where the answers go.
+struct Bench<W: Write> {
+    analysis: Analysis,
+    synthesis: Synthesis,
+    out: W,
+}
+
+impl<W: Write> Bench<W> {
+    fn head(&mut self, count: u64, kind: u8, verdict: Verdict, extra: &str) -> io::Result<()> {
+        writeln!(self.out, "{count} {kind} {} {} {extra}", verdict.0, verdict.1)
+    }
+
+    fn answer(&mut self, count: u64, kind: u8, call: Call) -> io::Result<()> {
+        match call {
+            Call::ClearAnalysis(number) => {
+                let known = config(number).is_some();
+                if known {
+                    self.analysis = Analysis::set(number, [0; ROOM]);
+                }
+                self.head(count, kind, (!known as u8, 0), "-")
+            }
+            Call::ClearSynthesis(number) => {
+                let known = config(number).is_some();
+                if known {
+                    self.synthesis = Synthesis::set(number, [0.0; ROOM]);
+                }
+                self.head(count, kind, (!known as u8, 0), "-")
+            }
+            Call::Analyse { input, lines, energies } => {
+                let (mut lines, mut energies) = (area(lines), area(energies));
+                let (verdict, flag) = self.analysis.frame(&input, &mut lines, &mut energies);
+                self.head(count, kind, verdict, if flag { "1" } else { "0" })?;
+                show_floats(&mut self.out, "lines", &lines)?;
+                show_floats(&mut self.out, "energies", &energies)
+            }
+            Call::Synthesise { lines, samples } => {
+                let mut samples = area(samples);
+                let verdict = self.synthesis.frame(&lines, &mut samples);
+                self.head(count, kind, verdict, "-")?;
+                show_floats(&mut self.out, "samples", &samples)
+            }
+            Call::Fft { size, inverse, re, im, re_out, im_out } => {
+                let (mut real, mut imag) = (area(re_out), area(im_out));
+                let verdict = fft(size, inverse, &re, &im, &mut real, &mut imag);
+                self.head(count, kind, verdict, "-")?;
+                show_floats(&mut self.out, "real", &real)?;
+                show_floats(&mut self.out, "imag", &imag)
+            }
+            Call::Dct { length, mut values } => {
+                let verdict = dct(length, &mut values);
+                self.head(count, kind, verdict, "-")?;
+                show_floats(&mut self.out, "buffer", &values)
+            }
+            Call::Loudest(energies) => {
+                let (verdict, band) = loudest(&energies);
+                let Some(band) = band else {
+                    return self.head(count, kind, verdict, "-");
+                };
+                self.head(count, kind, verdict, &band.to_string())?;
+                show_floats(&mut self.out, "energy", &energies[band..=band])
+            }
+            Call::Show => {
+                self.head(count, kind, ACCEPTED, "-")?;
+                let (a, s) = (&self.analysis, &self.synthesis);
+                show(&mut self.out, &format!("analysis {}", a.config), a.samples.iter().map(|x| x.to_string()))?;
+                show_floats(&mut self.out, &format!("synthesis {}", s.config), &s.memory)
+            }
+            Call::SetAnalysis(number, samples) => {
+                self.analysis = Analysis::set(number, padded(&samples, 0));
+                self.head(count, kind, ACCEPTED, "-")
+            }
+            Call::SetSynthesis(number, memory) => {
+                self.synthesis = Synthesis::set(number, padded(&memory, 0.0));
+                self.head(count, kind, ACCEPTED, "-")
+            }
+        }
+    }
+}
+
+pub fn main() -> io::Result<()> {
+    let mut bytes = Vec::new();
+    io::stdin().read_to_end(&mut bytes)?;
+    let out = io::BufWriter::new(io::stdout().lock());
+    let mut bench = Bench { analysis: Analysis::set(255, [0; ROOM]), synthesis: Synthesis::set(255, [0.0; ROOM]), out };
+    let mut log = match Log::open(&bytes) {
+        Ok(log) => log,
+        Err(number) => return writeln!(bench.out, "refused {number}"),
+    };
+    let mut count = 0;
+    while !log.is_done() {
+        let Some((kind, call)) = log.call() else {
+            return writeln!(bench.out, "stopped {count}");
+        };
+        bench.answer(count, kind, call)?;
+        count += 1;
+    }
+    writeln!(bench.out, "end {count}")
+}
