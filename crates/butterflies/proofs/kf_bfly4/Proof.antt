@@ -1,0 +1,82 @@
+-- `butterflies::kf_bfly4` meets its contract. The loop's invariant: the columns below i are turned, the others are not. Assumes nothing.
+use mathlib.Core.Path.{refl, _∙_, _≡_, fun-ext}
+use Prim.Native.Nat.{ℕ, _*_, _-_, _<_, _≤_}
+use native.Mathlib.Omega.{arith}
+use lib.ListN.{length}
+use borrow.Author.Needs.{needs}
+use Rattle.complex.specs.Complex.{at}
+use Rattle.butterflies.specs.Butterflies.{column4}
+use Rattle.butterflies.proofs.Columns.{Done, done-none, done-all, done-more, twiddle-in}
+use Rattle.butterflies.proofs.Local.{local4}
+use Rattle.butterflies.proofs.kf_bfly4.Statement.{statement}
+use Rattle.butterflies.proofs.kf_bfly4.Tie as tie
+
+abbrev Inv-loop : tie.InvT-loop
+Inv-loop re₀ im₀ tr ti fstride m inverse i₀ re im i = (length re ≡ length re₀) × (length im ≡ length im₀) × (i ≤ m) × Done 4 m (column4 inverse (at tr ti) fstride) (at re₀ im₀) (at re im) i
+
+abbrev μ-loop : tie.MeasureT-loop
+μ-loop re₀ im₀ tr ti fstride m inverse i₀ re im i = m - i
+
+-- the twiddles that a turn reads are in the table
+here : (c : tie.In-loop Inv-loop μ-loop) → let a = c .before .before .before .before .before .before .args in
+    (3 * (c .before .loop .i * a .fstride) < length (a .tr .now)) × (3 * (c .before .loop .i * a .fstride) < length (a .ti .now))
+here c =
+    let st = c .before .before .before .before .before .before in
+    let a = st .args in
+    let in-table : (n : ℕ) → 4 * (a .fstride * a .m) ≤ n → 3 * (c .before .loop .i * a .fstride) < n =
+    λ n h. twiddle-in n (a .fstride) 4 (a .m) (c .before .loop .i) 3 (st .pre .0) (c .loop-test .taken) (omega arith) h .0 in
+    (in-table _ (st .pre .2), in-table _ (st .pre .3))
+
+loop-holds : tie.Need-loop-holds Inv-loop μ-loop
+loop-holds c = (refl, refl, omega arith, done-none _ _ _ _)
+
+mul-turn4 : tie.Need-mul-turn4 Inv-loop μ-loop
+mul-turn4 c = omega (arith, here (c .before .before))
+
+turn4-requires : tie.Need-turn4-requires Inv-loop μ-loop
+turn4-requires c κs = omega (arith, here (c .before .before), c .before .before .before .loop .inv, c .before .before .before .before .before .before .before .before .pre)
+
+add-i : tie.Need-add-i Inv-loop μ-loop
+add-i c = omega (arith, c .before .before .before .before .before .before .before .loop-test .taken)
+
+loop-less : tie.Need-loop-less Inv-loop μ-loop
+loop-less c = omega (arith, c .before .before .before .before .before .before .before .loop-test .taken)
+
+loop-again : tie.Need-loop-again Inv-loop μ-loop
+unfolding column4
+loop-again c =
+    let lp = c .before .before .before .before .before .before .before .before in
+    let a = c .before .before .before .before .before .before .before .before .before .before .before .before .before .args in (
+      c .before .before .before .before .turn4 .kept .0 ∙ lp .loop .inv .0,
+      c .before .before .before .before .turn4 .kept .1 .0 ∙ lp .loop .inv .1,
+      omega (arith, c .before .before .before .before .before .before .before .loop-test .taken),
+      done-more 4 (a .m) (column4 (a .inverse) (at (a .tr .now) (a .ti .now)) (a .fstride)) (local4 (at (a .tr .now) (a .ti .now)) (a .fstride) (a .m) (a .inverse)) _ (at (lp .loop .re) (lp .loop .im)) _ (lp .loop .i) (c .before .before .before .before .before .before .before .loop-test .taken) (lp .loop .inv .3) (c .before .before .before .before .turn4 .ensures),
+    )
+
+same-length : tie.Need-same-length Inv-loop μ-loop
+same-length c = search needs
+
+same-length-2 : tie.Need-same-length-2 Inv-loop μ-loop
+same-length-2 c = search needs
+
+returns : tie.Need-returns Inv-loop μ-loop
+returns c =
+    let a = c .before .before .before .before .before .before .args in
+    let past : c .before .loop .i ≡ a .m = omega arith in
+    fun-ext (done-all 4 (a .m) (column4 (a .inverse) (at (a .tr .now) (a .ti .now)) (a .fstride)) _ _ (omega arith) (rw past at (c .before .loop .inv .3)))
+
+pub kf-bfly4-spec : {M : Type 1} → statement M
+kf-bfly4-spec =
+    tie.close
+    (tie.spec
+    Inv-loop
+    μ-loop
+    loop-holds
+    mul-turn4
+    turn4-requires
+    add-i
+    loop-less
+    loop-again
+    same-length
+    same-length-2
+    returns)

@@ -1,0 +1,2 @@
+pub mod Kissfft
+pub mod Fft
