@@ -1,0 +1,77 @@
+-- What `cleared` and `frames` say, case by case, as the code's tests have it. Assumes nothing.
+use mathlib.Core.Path.{_≡_, refl, sym, ap, subst, _∙_}
+use mathlib.Core.Bool.{Bool, true, false, not, cond}
+use mathlib.Core.List.{List}
+use Prim.Native.Nat.{ℕ, zero, suc}
+use native.Mathlib.Omega.{arith}
+use lib.Dec.{T, eqb}
+use lib.IntN.{ℤ}
+use lib.ListN.{length}
+use lib.Ieee.{Float}
+use borrow.Author.Tests.{not-true, not-false, eq-eqb, ne-eqb, eqb-true}
+use Rattle.config.specs.Config.{valid, nf, nb}
+use Rattle.analysis.specs.declared.Channel.{Channel}
+use Rattle.analysis.specs.Analysis.{linesOf, energiesOf, flagOf, keptOf, channelOf, clearing, cleared, Lent, Given, number, accepted, framed, frames}
+
+pub clear-is : (c : ℕ) (b v : Bool) → v ≡ b → v ≡ valid c → cleared c ≡ clearing b c
+unfolding cleared
+clear-is c b v e f = ap (λ (a : Bool). clearing a c) (sym f ∙ e)
+
+-- the number, from the tests one after the other; v is what the code's test of the configuration gave
+module _ (c : ℕ) (x : Lent) {v : Bool} (e : v ≡ valid c) where
+  pub says-1 : not v ≡ true → 1 ≡ number c x
+  says-1 h = simp (sym e ∙ not-true v h)
+
+  module _ (h : not v ≡ false) where
+    ok : valid c ≡ true
+    ok = sym e ∙ not-false v h
+
+    pub says-3 : (length (x .input) ≡ nf c → ⊥) → 3 ≡ number c x
+    says-3 a = simp (ok, ne-eqb _ _ a)
+
+    module _ (a : length (x .input) ≡ nf c) where
+      pub says-4 : (length (x .lines) ≡ nf c → ⊥) → 4 ≡ number c x
+      says-4 b = simp (ok, eq-eqb _ _ a, ne-eqb _ _ b)
+
+      module _ (b : length (x .lines) ≡ nf c) where
+        pub says-5 : (length (x .energies) ≡ nb c → ⊥) → 5 ≡ number c x
+        says-5 d = simp (ok, eq-eqb _ _ a, eq-eqb _ _ b, ne-eqb _ _ d)
+
+        pub says-0 : length (x .energies) ≡ nb c → 0 ≡ number c x
+        says-0 d = simp (ok, eq-eqb _ _ a, eq-eqb _ _ b, eq-eqb _ _ d)
+
+-- what a call that is not refused has passed
+abbrev pub Passed : ℕ → Lent → Type 0
+Passed c x = T (valid c) × (length (x .input) ≡ nf c) × (length (x .lines) ≡ nf c) × (length (x .energies) ≡ nb c)
+
+pub passed : (c : ℕ) (x : Lent) → number c x ≡ 0 → Passed c x
+passed c x = go (valid c) (eqb (length (x .input)) (nf c)) (eqb (length (x .lines)) (nf c)) (eqb (length (x .energies)) (nb c)) refl refl refl refl
+  where
+    go : (p q r s : Bool) → valid c ≡ p → eqb (length (x .input)) (nf c) ≡ q → eqb (length (x .lines)) (nf c) ≡ r → eqb (length (x .energies)) (nb c) ≡ s
+        → _≡_ {A = ℕ} (cond (not p) 1 (cond (not q) 3 (cond (not r) 4 (cond (not s) 5 0)))) 0 → Passed c x
+    go true true true true p q r s e =
+        (subst T (sym p) tt, eqb-true _ _ q, eqb-true _ _ r, eqb-true _ _ s)
+    go true true true false p q r s e = absurd (omega arith)
+    go true true false d p q r s e = absurd (omega arith)
+    go true false b d p q r s e = absurd (omega arith)
+    go false a b d p q r s e = absurd (omega arith)
+
+-- a refused call
+pub refused : (n : ℕ) (ch : Channel) (x : Lent) → (n ≡ 0 → ⊥)
+    → _≡_ {A = Given × Channel} (framed n ch x) (record { number = n; flag = false; lines = x .lines; energies = x .energies }, ch)
+refused zero ch x h = absurd (h refl)
+refused (suc n) ch x h = refl
+
+pub by-number : (ch : Channel) (x : Lent) (n : ℕ) → n ≡ number (ch .config) x → frames ch x ≡ framed n ch x
+unfolding frames
+by-number ch x n e = ap (λ (k : ℕ). framed k ch x) (sym e)
+
+-- an accepted call
+pub made : (c : ℕ) (past x : List ℤ) (f : Bool) (l e : List Float) (s : List ℤ) (ch : Channel)
+    → l ≡ linesOf c past x → e ≡ energiesOf c l → f ≡ flagOf c (energiesOf c l) → s ≡ keptOf c past x → ch ≡ channelOf c s
+    → _≡_ {A = Given × Channel} (record { number = 0; flag = f; lines = l; energies = e }, ch) (accepted c past x)
+made c past x f l e s ch p q r t u =
+    let q' : e ≡ energiesOf c (linesOf c past x) = q ∙ ap (energiesOf c) p in
+    let r' : f ≡ flagOf c (energiesOf c (linesOf c past x)) = r ∙ ap (λ (m : List Float). flagOf c (energiesOf c m)) p in
+    let u' : ch ≡ channelOf c (keptOf c past x) = u ∙ ap (channelOf c) t in
+    λ i. (record { number = 0; flag = r' i; lines = p i; energies = q' i }, u' i)

@@ -1,0 +1,4 @@
+pub mod Buffer
+pub mod Fold
+pub mod Energy
+pub mod Facts
