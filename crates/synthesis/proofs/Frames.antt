@@ -1,0 +1,77 @@
+-- What `cleared` and `frames` say, case by case, as the code's tests have it. Assumes nothing.
+use mathlib.Core.Path.{_≡_, refl, sym, ap, subst, _∙_}
+use mathlib.Core.Bool.{Bool, true, false, not, cond}
+use mathlib.Core.List.{List}
+use Prim.Native.Nat.{ℕ, zero, suc, _≤_, _<_}
+use native.Mathlib.Omega.{arith}
+use lib.Dec.{T, eqb, ltb}
+use lib.ListN.{length}
+use lib.Ieee.{Float}
+use borrow.Author.Tests.{not-true, not-false, eq-eqb, ne-eqb, eqb-true, lt-ltb, le-ltb}
+use Rattle.laws.specs.Lists.{first}
+use Rattle.laws.specs.Passes.{passes6}
+use Rattle.config.specs.Config.{valid, nf, ne}
+use Rattle.synthesis.specs.declared.Channel.{Channel}
+use Rattle.synthesis.specs.Synthesis.{samplesOf, keptOf, channelOf, clearing, cleared, Lent, Given, number, index, accepted, framed, frames}
+
+pub clear-is : (c : ℕ) (b v : Bool) → v ≡ b → v ≡ valid c → cleared c ≡ clearing b c
+unfolding cleared
+clear-is c b v e f = ap (λ (a : Bool). clearing a c) (sym f ∙ e)
+
+-- the number and the index, from the tests one after the other; v is what the code's test of the configuration gave, k what its search gave
+module _ (c : ℕ) (x : Lent) {v : Bool} (e : v ≡ valid c) where
+  pub says-1 : not v ≡ true → (1 ≡ number c x) × (0 ≡ index 1 x)
+  says-1 h = (simp (sym e ∙ not-true v h), refl)
+
+  module _ (h : not v ≡ false) where
+    ok : valid c ≡ true
+    ok = sym e ∙ not-false v h
+
+    pub says-3 : (length (x .lines) ≡ ne c → ⊥) → (3 ≡ number c x) × (0 ≡ index 3 x)
+    says-3 a = (simp (ok, ne-eqb _ _ a), refl)
+
+    module _ (a : length (x .lines) ≡ ne c) where
+      pub says-4 : (length (x .samples) ≡ nf c → ⊥) → (4 ≡ number c x) × (0 ≡ index 4 x)
+      says-4 b = (simp (ok, eq-eqb _ _ a, ne-eqb _ _ b), refl)
+
+      module _ (b : length (x .samples) ≡ nf c) {k : ℕ} (f : k ≡ first passes6 (x .lines)) where
+        pub says-6 : k < length (x .lines) → (6 ≡ number c x) × (k ≡ index 6 x)
+        says-6 d = (simp (ok, eq-eqb _ _ a, eq-eqb _ _ b, lt-ltb _ _ (subst (λ (j : ℕ). j < length (x .lines)) f d)), f)
+
+        pub says-0 : length (x .lines) ≤ k → (0 ≡ number c x) × (0 ≡ index 0 x)
+        says-0 d = (simp (ok, eq-eqb _ _ a, eq-eqb _ _ b, le-ltb _ _ (subst (λ (j : ℕ). length (x .lines) ≤ j) f d)), refl)
+
+-- what a call that is not refused has passed
+pub record Passed (c : ℕ) (x : Lent) : Type 0 where
+  pub is-valid : T (valid c)
+  pub lines-is : length (x .lines) ≡ ne c
+  pub samples-is : length (x .samples) ≡ nf c
+
+pub passed : (c : ℕ) (x : Lent) → number c x ≡ 0 → Passed c x
+passed c x = go (valid c) (eqb (length (x .lines)) (ne c)) (eqb (length (x .samples)) (nf c)) (ltb (first passes6 (x .lines)) (length (x .lines))) refl refl refl
+  where
+    go : (p q r s : Bool) → valid c ≡ p → eqb (length (x .lines)) (ne c) ≡ q → eqb (length (x .samples)) (nf c) ≡ r
+        → _≡_ {A = ℕ} (cond (not p) 1 (cond (not q) 3 (cond (not r) 4 (cond s 6 0)))) 0 → Passed c x
+    go true true true s p q r e = record { is-valid = subst T (sym p) tt; lines-is = eqb-true _ _ q; samples-is = eqb-true _ _ r }
+    go true true false s p q r e = absurd (omega arith)
+    go true false b s p q r e = absurd (omega arith)
+    go false a b s p q r e = absurd (omega arith)
+
+-- a refused call
+pub refused : (ch : Channel) (x : Lent) (n k : ℕ) → n ≡ number (ch .config) x → k ≡ index n x → (n ≡ 0 → ⊥)
+    → _≡_ {A = Given × Channel} (frames ch x) (record { number = n; index = k; samples = x .samples }, ch)
+unfolding frames
+refused ch x zero k e f h = absurd (h refl)
+refused ch x (suc n) k e f h = ap (λ (m : ℕ). framed m ch x) (sym e) ∙ ap (λ (i : ℕ). (record { number = suc n; index = i; samples = x .samples }, ch)) (sym f)
+
+-- a call that is not refused
+pub taken : (ch : Channel) (x : Lent) → number (ch .config) x ≡ 0 → frames ch x ≡ framed 0 ch x
+unfolding frames
+taken ch x e = ap (λ (k : ℕ). framed k ch x) e
+
+-- what it has made
+pub made : (c : ℕ) (past x s m : List Float) (ch : Channel) → s ≡ samplesOf c past x → m ≡ keptOf c x → ch ≡ channelOf c m
+    → _≡_ {A = Given × Channel} (accepted c past x) (record { number = 0; index = 0; samples = s }, ch)
+made c past x s m ch p q r =
+    let u = r ∙ ap (channelOf c) q in
+    λ i. (record { number = 0; index = 0; samples = sym p i }, sym u i)
