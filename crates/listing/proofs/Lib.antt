@@ -1,0 +1,5 @@
+pub mod Decimal
+pub mod Found
+pub mod Frames
+pub mod Lines
+pub mod Whole

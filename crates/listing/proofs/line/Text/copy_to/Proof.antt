@@ -1,0 +1,76 @@
+-- `listing::line::Text::copy_to` meets its contract. The invariant: i bytes are pasted. Assumes nothing.
+use mathlib.Core.Path.{_≡_, refl, sym, ap, _∙_}
+use mathlib.Core.List.{List}
+use Prim.Native.Nat.{ℕ, _+_, _-_, _≤_, min}
+use native.Mathlib.Numerals.{add-one}
+use native.Mathlib.Omega.{arith}
+use lib.ListN.{length, getD, set, length-set}
+use lib.Seq.{paste, paste-zero, paste-suc}
+use borrow.Author.Needs.{needs}
+use Rattle.listing.proofs.line.Text.copy_to.Statement.{statement}
+use Rattle.listing.proofs.line.Text.copy_to.Tie as tie
+
+abbrev Inv-loop : tie.InvT-loop
+Inv-loop out₀ at n bytes i₀ out i = (i ≤ n) × (n ≤ 64) × (length bytes ≡ 64) × (length out ≡ length out₀) × (out ≡ paste out₀ at bytes i)
+
+abbrev μ-loop : tie.MeasureT-loop
+μ-loop out₀ at n bytes i₀ out i = n - i
+
+size-requires : tie.Need-size-requires Inv-loop μ-loop
+size-requires c κs = search needs
+
+loop-holds : tie.Need-loop-holds Inv-loop μ-loop
+loop-holds c =
+    let a = c .before .before .before .args in
+    (omega arith, omega (arith, c .before .size .ensures), search needs, refl, paste-zero (a .out .now) (a .at) (a .self .bytes))
+
+array-read-out : tie.Need-array-read-out Inv-loop μ-loop
+array-read-out c = search needs
+
+add-out : tie.Need-add-out Inv-loop μ-loop
+add-out c = search needs
+
+slice-write-out : tie.Need-slice-write-out Inv-loop μ-loop
+slice-write-out c = search needs
+
+add-i : tie.Need-add-i Inv-loop μ-loop
+add-i c = search needs
+
+loop-less : tie.Need-loop-less Inv-loop μ-loop
+loop-less c = search needs
+
+loop-again : tie.Need-loop-again Inv-loop μ-loop
+loop-again c =
+    let a = c .before .before .before .before .before .args in
+    let l = c .before .loop in
+    (omega arith, l .inv .1, l .inv .2, simp length-set (l .inv .3), ap (λ (m : List ℕ). set m (a .at + l .i) (getD (a .self .bytes) (l .i) 0)) (l .inv .4) ∙ paste-suc (a .out .now) (a .at) (a .self .bytes) (l .i) 0 (omega arith) (omega arith) ∙ ap (paste (a .out .now) (a .at) (a .self .bytes)) (sym (add-one (l .i))))
+
+add-result : tie.Need-add-result Inv-loop μ-loop
+add-result c = search needs
+
+same-length : tie.Need-same-length Inv-loop μ-loop
+same-length c = c .before .loop .inv .3
+
+returns : tie.Need-returns Inv-loop μ-loop
+returns c =
+    let a = c .before .before .before .before .before .args in
+    let e : c .before .loop .i ≡ c .before .before .before .size .result = omega arith in
+    (ap (λ (n : ℕ). a .at + n) (c .before .before .before .size .ensures), c .before .loop .inv .4 ∙ ap (paste (a .out .now) (a .at) (a .self .bytes)) (e ∙ c .before .before .before .size .ensures))
+
+pub copy-to-spec : {M : Type 1} → statement M
+copy-to-spec =
+    tie.close
+    (tie.spec
+    Inv-loop
+    μ-loop
+    size-requires
+    loop-holds
+    array-read-out
+    add-out
+    slice-write-out
+    add-i
+    loop-less
+    loop-again
+    add-result
+    same-length
+    returns)

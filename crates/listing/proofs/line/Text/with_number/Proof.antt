@@ -1,0 +1,44 @@
+-- `listing::line::Text::with_number` meets its contract: the digits that `io::decimal` gives are `decimal`'s. Assumes nothing.
+use mathlib.Core.Path.{_≡_, ap, _∙_}
+use mathlib.Core.List.{List}
+use Prim.Native.Nat.{ℕ, _≤_}
+use native.Mathlib.Omega.{arith}
+use lib.ListN.{length}
+use Rattle.listing.specs.Steps.{with}
+use Rattle.listing.proofs.Decimal.{decimal-is, length-decimal}
+use borrow.Author.Needs.{needs}
+use Rattle.listing.proofs.line.Text.with_number.Statement.{statement}
+use Rattle.listing.proofs.line.Text.with_number.Tie as tie
+
+decimal-requires : tie.Need-decimal-requires
+decimal-requires c κs = search needs
+
+array-share-prefix-digits : tie.Need-array-share-prefix-digits
+array-share-prefix-digits c = search needs
+
+slice-aggregate-with-bytes : tie.Need-slice-aggregate-with-bytes
+slice-aggregate-with-bytes c = search needs
+
+with-bytes-requires : tie.Need-with-bytes-requires
+with-bytes-requires c κs =
+    let n = c .before .before .before .args .n in
+    let d = c .before .decimal in
+    let e = d .ensures .1 .1 ∙ decimal-is n (d .result) (d .ensures .1 .0) in
+    omega (arith, ap length e, length-decimal n (c .before .before .before .fits .n .fits), c .before .before .before .pre)
+
+returns : tie.Need-returns
+returns c =
+    let n = c .before .before .before .before .args .n in
+    let d = c .before .before .decimal in
+    let e = d .ensures .1 .1 ∙ decimal-is n (d .result) (d .ensures .1 .0) in
+    c .with-bytes .ensures ∙ ap (with (c .before .before .before .before .args .self)) e
+
+pub with-number-spec : {M : Type 1} → statement M
+with-number-spec =
+    tie.close
+    (tie.spec
+    decimal-requires
+    array-share-prefix-digits
+    slice-aggregate-with-bytes
+    with-bytes-requires
+    returns)

@@ -1,0 +1,70 @@
+// What a frame's line tells: flag and loudest band, and the channel after it.
+ghost use mathlib.Core.Path.{_≡_};
+ghost use Prim.Native.Nat.{_≤_};
+ghost use lib.Dec.{T};
+ghost use lib.IntN.{pos};
+ghost use lib.ListN.{length, replicate};
+ghost use Rattle.config.specs.Config.{valid, nf};
+ghost use Rattle.frame_file.specs.File.{samples, frameBytes};
+ghost use Rattle.listing.specs.Listing.{zeros, listened};
+use analysis::Channel;
+use loudest::Loudest;
+
+pub struct Measured {
+    pub flag: bool,
+    pub loudest: Loudest,
+    pub channel: Channel,
+}
+
+// Room for the lines of any configuration.
+fn lines() -> [f32; 480]
+    ensures { λ r. ⌜ r ≡ zeros 480 ⌝ }
+{
+    [0.0; 480]
+}
+
+// Room for the energies of any configuration.
+fn energies() -> [f32; 64]
+    ensures { λ r. ⌜ r ≡ zeros 64 ⌝ }
+{
+    [0.0; 64]
+}
+
+// Room for the samples of any configuration.
+fn silence() -> [i16; 480]
+    ensures { λ r. ⌜ r ≡ replicate 480 (pos 0) ⌝ }
+{
+    [0i16; 480]
+}
+
+// The analysis of a frame, and the loudest of its bands.
+fn listen(channel: Channel, input: &[i16]) -> Measured
+    requires { ⌜ T (valid (channel .config)) ⌝ }
+    ensures { λ r. ⌜ r ≡ listened channel (now (input .entry)) ⌝ }
+{
+    let config = channel.config;
+    let n = config::nf(config);
+    let b = config::nb(config);
+    let mut lines = lines();
+    let mut energies = energies();
+    let framed = channel.frame(input, &mut lines[..n], &mut energies[..b]);
+    let heard = loudest::loudest_band(&energies[..b]);
+    let loudest = heard.loudest;
+    let next = framed.channel;
+    Measured {
+        flag: framed.flag,
+        loudest,
+        channel: next,
+    }
+}
+
+// Inner. The same of a whole record's bytes.
+pub fn listen_to(channel: Channel, bytes: &[u8]) -> Measured
+    requires { ⌜ T (valid (channel .config)) × (length (now bytes) ≡ frameBytes (channel .config)) ⌝ }
+    ensures { λ r. ⌜ r ≡ listened channel (samples (nf (channel .config)) (now (bytes .entry))) ⌝ }
+{
+    let n = config::nf(channel.config);
+    let mut samples = silence();
+    frame_file::decode(bytes, &mut samples[..n]);
+    listen(channel, &samples[..n])
+}
