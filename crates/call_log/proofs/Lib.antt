@@ -1,0 +1,4 @@
+pub mod Signed
+pub mod Fields
+pub mod Opened
+pub mod Counts

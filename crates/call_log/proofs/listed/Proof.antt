@@ -1,0 +1,46 @@
+-- `call_log::listed` meets its contract. The product fits, since a width is at most 4 and a count 16 bits. Assumes nothing.
+use mathlib.Core.Bool.{Bool}
+use lib.Dec.{leb}
+use Rattle.call_log.specs.Log.{short, pick, within}
+use mathlib.Core.Path.{sym, ap, _∙_}
+use Prim.Native.Nat.{ℕ, _+_, _*_}
+use native.Mathlib.Nat.{mul-le-mul-right}
+use native.Mathlib.Omega.{arith}
+use borrow.Author.Tests.{le-leb, lt-leb}
+use borrow.Author.Needs.{needs}
+use Rattle.call_log.proofs.listed.Statement.{statement}
+use Rattle.call_log.proofs.listed.Tie as tie
+
+short-requires : tie.Need-short-requires
+short-requires c κs = search needs
+
+cast-n : tie.Need-cast-n
+cast-n c = search needs
+
+mul-within : tie.Need-mul-within
+mul-within c = omega (arith, mul-le-mul-right (c .before .short .result) (c .before .before .before .pre))
+
+add-within : tie.Need-add-within
+add-within c = omega (arith, mul-le-mul-right (c .before .short .result) (c .before .before .before .pre))
+
+within-requires : tie.Need-within-requires
+within-requires c κs = search needs
+
+returns : tie.Need-returns
+returns c =
+    let a = c .before .before .before .before .args in
+    let b = a .b .now in
+    let e = c .before .before .short .ensures in
+    c .within .ensures ∙ ap (λ (n : ℕ). within b (2 + a .width * n)) e ∙ sym (ap (λ (t : Bool). pick t (within b (2 + a .width * short b))) (ap (λ (n : ℕ). leb n (a .most)) (sym e) ∙ le-leb _ _ (c .before .if1 .taken)))
+
+returns-2 : tie.Need-returns-2
+returns-2 c =
+    let a = c .before .before .before .args in
+    let b = a .b .now in
+    let e = c .before .short .ensures in
+    sym (ap (λ (t : Bool). pick t (within b (2 + a .width * short b))) (ap (λ (n : ℕ). leb n (a .most)) (sym e) ∙ lt-leb _ _ (c .if1 .left)))
+
+pub listed-spec : {M : Type 1} → statement M
+listed-spec =
+    tie.close
+    (tie.spec short-requires cast-n mul-within add-within within-requires returns returns-2)
