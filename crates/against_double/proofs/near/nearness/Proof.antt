@@ -1,0 +1,20 @@
+-- `near::nearness` meets its contract. Assumes nothing.
+use mathlib.Core.Path.{_≡_, ap, _∙_}
+use lib.ListN.{length}
+use lib.Ieee.{Float}
+use Rattle.against_double.specs.Near.{least}
+use borrow.Author.Needs.{needs}
+use Rattle.against_double.proofs.near.nearness.Statement.{statement}
+use Rattle.against_double.proofs.near.nearness.Tie as tie
+
+peak-requires : tie.Need-peak-requires
+peak-requires c κs = search needs
+
+least-requires : tie.Need-least-requires
+least-requires c κs = search needs
+
+returns : tie.Need-returns
+returns c = c .least .ensures ∙ ap (λ (p : Float). least (c .before .before .before .before .args .values .now) (c .before .before .before .before .args .b .now) p (length (c .before .before .before .before .args .values .now))) (c .before .peak .ensures)
+
+pub nearness-spec : {M : Type 1} → statement M
+nearness-spec = tie.close (tie.spec peak-requires least-requires returns)

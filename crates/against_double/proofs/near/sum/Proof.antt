@@ -1,0 +1,27 @@
+-- `near::sum` meets its contract. Assumes nothing.
+use mathlib.Core.Path.{_≡_, ap, _∙_}
+use Prim.Native.Nat.{ℕ}
+use lib.Ieee.{binary64, ofBits}
+use Rattle.against_double.specs.Near.{long, sumOf}
+use borrow.Author.Needs.{needs}
+use Rattle.against_double.proofs.near.sum.Statement.{statement}
+use Rattle.against_double.proofs.near.sum.Tie as tie
+
+mul-rest : tie.Need-mul-rest
+mul-rest c = search needs
+
+rest-requires : tie.Need-rest-requires
+rest-requires c κs = search needs
+
+long-requires : tie.Need-long-requires
+long-requires c κs = search needs
+
+double-requires : tie.Need-double-requires
+double-requires c κs = search needs
+
+returns : tie.Need-returns
+unfolding sumOf
+returns c = c .double .ensures ∙ ap (λ (n : ℕ). ofBits binary64 n) (c .before .long .ensures ∙ ap long (c .before .before .rest .ensures))
+
+pub sum-spec : {M : Type 1} → statement M
+sum-spec = tie.close (tie.spec mul-rest rest-requires long-requires double-requires returns)
