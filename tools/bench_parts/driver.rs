@@ -1,0 +1,273 @@
+//! The bench's driver: calls of lc3-codec's own code and of the port's static library, side by side.
+//!   check                     compares the bits of both on random input, and prints how many calls agree
+//!   count SIDE CALL CONFIG N  makes N calls and prints nothing: its instructions are what is counted
+//!   stack SIDE CALL CONFIG    prints how many bytes of stack a call touches, a channel handed in by value included
+//! SIDE is rust or port, CALL dct, analysis or synthesis. Buffers are made once and never cleared between calls.
+
+mod port;
+
+use crate::common::complex::Complex;
+use crate::common::config::{FrameDuration, Lc3Config, SamplingFrequency};
+use crate::common::dct_iv::DiscreteCosTransformIv;
+use crate::{decoder, encoder};
+use std::io;
+
+const ROUNDS: usize = 50;
+const CALLS: [&str; 3] = ["dct", "analysis", "synthesis"];
+
+fn config(number: u8) -> Lc3Config {
+    use FrameDuration::*;
+    use SamplingFrequency::*;
+    let rates = [Hz8000, Hz16000, Hz24000, Hz32000, Hz48000];
+    let duration = if number < 5 { SevenPointFiveMs } else { TenMs };
+    Lc3Config::new(rates[number as usize % 5], duration)
+}
+
+/// Memory that lives as long as the program, as lc3-codec wants its buffers lent.
+fn lent<T: Clone>(value: T, count: usize) -> &'static mut [T] {
+    Vec::leak(vec![value; count])
+}
+
+fn work(c: &Lc3Config) -> &'static mut [Complex] {
+    lent(Complex::default(), DiscreteCosTransformIv::calc_working_buffer_length(c))
+}
+
+/// Numbers that look random: the same for both sides.
+struct Random(u64);
+
+impl Random {
+    fn next(&mut self) -> u32 {
+        self.0 = self.0.wrapping_mul(6364136223846793005).wrapping_add(1442695040888963407);
+        (self.0 >> 33) as u32
+    }
+
+    fn samples(&mut self, into: &mut [i16]) {
+        let shift = self.next() % 15;
+        into.iter_mut().for_each(|x| *x = self.next() as i16 >> shift);
+    }
+
+    fn floats(&mut self, into: &mut [f32]) {
+        let size = f32::powi(2.0, self.next() as i32 % 59 - 30);
+        into.iter_mut().for_each(|x| *x = (self.next() as i32 - (1 << 30)) as f32 * size / (1 << 30) as f32);
+    }
+}
+
+/// A call that is made again and again: what goes in, the call, and the bits that come out.
+trait Call {
+    fn give(&mut self, pick: &mut Random);
+    fn make(&mut self);
+    fn bits(&self) -> Vec<u32>;
+}
+
+fn bits(values: &[f32]) -> impl Iterator<Item = u32> + '_ {
+    values.iter().map(|x| x.to_bits())
+}
+
+struct RustDct(DiscreteCosTransformIv<'static>, Vec<f32>);
+
+impl Call for RustDct {
+    fn give(&mut self, pick: &mut Random) {
+        pick.floats(&mut self.1)
+    }
+    fn make(&mut self) {
+        self.0.run(&mut self.1);
+    }
+    fn bits(&self) -> Vec<u32> {
+        bits(&self.1).collect()
+    }
+}
+
+struct PortDct(Vec<f32>, u8);
+
+impl Call for PortDct {
+    fn give(&mut self, pick: &mut Random) {
+        pick.floats(&mut self.0)
+    }
+    fn make(&mut self) {
+        self.1 = unsafe { port::loamscarf_dct_iv(self.0.len(), self.0.as_mut_ptr(), self.0.len()) }.number;
+    }
+    fn bits(&self) -> Vec<u32> {
+        assert_eq!(self.1, 0, "the port refuses a DCT");
+        bits(&self.0).collect()
+    }
+}
+
+/// What an analysis frame is lent.
+struct Frame {
+    input: Vec<i16>,
+    lines: Vec<f32>,
+    energies: Vec<f32>,
+}
+
+impl Frame {
+    fn new(c: &Lc3Config) -> Self {
+        Frame { input: vec![0; c.nf], lines: vec![0.0; c.nf], energies: vec![0.0; c.nb] }
+    }
+    fn bits(&self, flag: bool) -> Vec<u32> {
+        bits(&self.lines).chain(bits(&self.energies)).chain([flag as u32]).collect()
+    }
+}
+
+struct RustAnalysis(encoder::modified_dct::ModDiscreteCosTrans<'static>, Frame, bool);
+
+impl Call for RustAnalysis {
+    fn give(&mut self, pick: &mut Random) {
+        pick.samples(&mut self.1.input)
+    }
+    fn make(&mut self) {
+        let f = &mut self.1;
+        self.2 = self.0.run(&f.input, &mut f.lines, &mut f.energies);
+    }
+    fn bits(&self) -> Vec<u32> {
+        self.1.bits(self.2)
+    }
+}
+
+struct PortAnalysis(port::AnalysisFramed, Frame);
+
+impl Call for PortAnalysis {
+    fn give(&mut self, pick: &mut Random) {
+        pick.samples(&mut self.1.input)
+    }
+    fn make(&mut self) {
+        let (x, l, e) = (&self.1.input, &mut self.1.lines, &mut self.1.energies);
+        self.0 = unsafe { port::loamscarf_analysis_frame(self.0.channel, x.as_ptr(), x.len(), l.as_mut_ptr(), l.len(), e.as_mut_ptr(), e.len()) };
+    }
+    fn bits(&self) -> Vec<u32> {
+        assert_eq!(self.0.number, 0, "the port refuses a frame");
+        self.1.bits(self.0.flag)
+    }
+}
+
+struct RustSynthesis(decoder::modified_dct::ModDiscreteCosTrans<'static>, Vec<f32>, Vec<f32>);
+
+impl Call for RustSynthesis {
+    fn give(&mut self, pick: &mut Random) {
+        pick.floats(&mut self.1)
+    }
+    fn make(&mut self) {
+        self.0.run(&self.1, &mut self.2);
+    }
+    fn bits(&self) -> Vec<u32> {
+        bits(&self.2).collect()
+    }
+}
+
+struct PortSynthesis(port::SynthesisFramed, Vec<f32>, Vec<f32>);
+
+impl Call for PortSynthesis {
+    fn give(&mut self, pick: &mut Random) {
+        pick.floats(&mut self.1)
+    }
+    fn make(&mut self) {
+        let (x, s) = (&self.1, &mut self.2);
+        self.0 = unsafe { port::loamscarf_synthesis_frame(self.0.channel, x.as_ptr(), x.len(), s.as_mut_ptr(), s.len()) };
+    }
+    fn bits(&self) -> Vec<u32> {
+        assert_eq!(self.0.number, 0, "the port refuses lines");
+        bits(&self.2).collect()
+    }
+}
+
+/// lc3-codec's call.
+fn rust(call: &str, number: u8) -> Box<dyn Call> {
+    let c = config(number);
+    match call {
+        "dct" => Box::new(RustDct(DiscreteCosTransformIv::new(c.nf, work(&c)).0, vec![0.0; c.nf])),
+        "analysis" => {
+            let (length, _) = encoder::modified_dct::ModDiscreteCosTrans::calc_working_buffer_lengths(&c);
+            let frame = Frame::new(&c);
+            Box::new(RustAnalysis(encoder::modified_dct::ModDiscreteCosTrans::new(c, lent(0, length), work(&config(number))).0, frame, false))
+        }
+        _ => {
+            let (length, _) = decoder::modified_dct::ModDiscreteCosTrans::calc_working_buffer_length(&c);
+            let (lines, samples) = (vec![0.0; c.ne], vec![0.0; c.nf]);
+            Box::new(RustSynthesis(decoder::modified_dct::ModDiscreteCosTrans::new(c, lent(0.0, length), work(&config(number))).0, lines, samples))
+        }
+    }
+}
+
+/// The port's call.
+fn ours(call: &str, number: u8) -> Box<dyn Call> {
+    let c = config(number);
+    match call {
+        "dct" => Box::new(PortDct(vec![0.0; c.nf], 0)),
+        "analysis" => Box::new(PortAnalysis(port::AnalysisFramed::silent(number), Frame::new(&c))),
+        _ => Box::new(PortSynthesis(port::SynthesisFramed::silent(number), vec![0.0; c.ne], vec![0.0; c.nf])),
+    }
+}
+
+/// Both sides on the same input, call after call on one channel.
+fn agree(call: &str, number: u8) -> bool {
+    let (mut left, mut right) = (ours(call, number), rust(call, number));
+    let (mut one, mut two) = (Random(number as u64), Random(number as u64));
+    (0..ROUNDS).all(|_| {
+        left.give(&mut one);
+        right.give(&mut two);
+        left.make();
+        right.make();
+        left.bits() == right.bits()
+    })
+}
+
+fn check() {
+    for call in CALLS {
+        for number in 0..10 {
+            if !agree(call, number) {
+                println!("the bits differ: {call}, configuration {number}");
+                std::process::exit(1);
+            }
+        }
+    }
+    println!("{}", ROUNDS * CALLS.len() * 10);
+}
+
+/// A DCT is in place: its buffer stays zero here, since other values would grow from call to call. No count depends on values.
+fn count(call: &str, mut made: Box<dyn Call>, n: usize) {
+    if call != "dct" {
+        made.give(&mut Random(1));
+    }
+    for _ in 0..n {
+        made.make();
+    }
+}
+
+const PAINT: u64 = 0xA5C3_5A3C_96E1_1E69;
+const DEPTH: usize = 1 << 20;
+/// What a function may use below its stack pointer.
+const RED_ZONE: usize = 128;
+
+/// Paints the stack below, makes the call, and looks for the lowest place whose paint is gone.
+#[inline(never)]
+fn touched(made: &mut dyn Call) -> usize {
+    let top: usize;
+    unsafe { std::arch::asm!("mov {}, rsp", out(reg) top) };
+    let places = (top - DEPTH..top - RED_ZONE).step_by(8);
+    for at in places.clone() {
+        unsafe { std::ptr::write_volatile(at as *mut u64, PAINT) };
+    }
+    made.make();
+    let lowest = places.into_iter().find(|&at| unsafe { std::ptr::read_volatile(at as *const u64) } != PAINT);
+    top - lowest.unwrap_or(top)
+}
+
+fn stack(side: String, call: String, number: u8) {
+    let room = std::thread::Builder::new().stack_size(4 * DEPTH);
+    let bytes = room.spawn(move || touched(&mut *chosen(&side, &call, number))).expect("a thread").join().expect("a call");
+    println!("{bytes}");
+}
+
+fn chosen(side: &str, call: &str, number: u8) -> Box<dyn Call> {
+    if side == "rust" { rust(call, number) } else { ours(call, number) }
+}
+
+pub fn main() -> io::Result<()> {
+    let words: Vec<String> = std::env::args().skip(1).collect();
+    let number = |k: usize| words[k].parse::<usize>().expect("a number");
+    match words[0].as_str() {
+        "check" => check(),
+        "count" => count(&words[2], chosen(&words[1], &words[2], number(3) as u8), number(4)),
+        _ => stack(words[1].clone(), words[2].clone(), number(3) as u8),
+    }
+    Ok(())
+}
