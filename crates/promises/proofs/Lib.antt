@@ -1,0 +1,6 @@
+pub mod Law
+pub mod Zeros
+pub mod AnalysisLaw
+pub mod SynthesisLaw
+pub mod Facts
+pub mod OneAnswer

@@ -1,0 +1,5 @@
+pub mod Sequence
+pub mod AnalysisChannel
+pub mod SynthesisChannel
+pub mod Facts
+pub mod OneAnswer
