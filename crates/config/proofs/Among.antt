@@ -1,13 +1,13 @@
 -- Numbers of a list: what holds at each place holds of each number, what the last arm of a match on the list's numbers knows, and a search.
 -- Assumes nothing.
 use mathlib.Core.Path.{_≡_, refl, sym, subst}
-use mathlib.Core.Bool.{Bool, true, false}
+use mathlib.Core.Bool.{Bool, true, false, _||_}
 use mathlib.Core.List.{List, [], _∷_}
 use Prim.Native.Nat.{ℕ, suc, _+_, _<_}
 use native.Mathlib.Numerals.{add-one}
 use native.Mathlib.Decide.{ℕ-discrete}
 use native.Mathlib.Omega.{arith}
-use lib.Dec.{T}
+use lib.Dec.{T, eqb, eqb→eq}
 use lib.ListN.{length, getD, drop}
 use lib.Seq.{drop-cons}
 use borrow.Author.Tests.{eq-eqb, ne-eqb}
@@ -31,6 +31,22 @@ pub outside-among : (ms : List ℕ) (n : ℕ) (A : Type 0) → Outside ms n A �
 outside-among [] n A o = refl
 outside-among (m ∷ ms) n A o =
     rw (ne-eqb m n (λ e. outside-besides ms n (A × (n ≡ m → ⊥)) o .1 (sym e))) (outside-among ms n (A × (n ≡ m → ⊥)) o)
+
+same : (p q : Bool) → (T p → T q) → (T q → T p) → p ≡ q
+same true true f g = refl
+same true false f g = absurd (f tt)
+same false true f g = absurd (g tt)
+same false false f g = refl
+
+-- two lists of the same numbers
+pub same-among : (ms ns : List ℕ) → T (every (λ k n. among ns n) 0 ms) → T (every (λ k n. among ms n) 0 ns) → (n : ℕ) → among ms n ≡ among ns n
+same-among ms ns t u n = same (among ms n) (among ns n) (at-among (among ns) ms t n) (at-among (among ms) ns u n)
+
+-- what the last arm knows of a number that is one of a list's, where the arms before it are all the others
+pub last-among : (ns ms : List ℕ) (last : ℕ) → T (every (λ k n. among ms n || eqb last n) 0 ns) → (n : ℕ) → T (among ns n) → Outside ms n Unit → n ≡ last
+last-among ns ms last t n a o =
+    let u : T (among ms n || eqb last n) = at-among (λ n. among ms n || eqb last n) ns t n a in
+    sym (eqb→eq last n (rw (outside-among ms n Unit o) at u))
 
 -- a search that has come to place k finds the number there, or goes on
 pub among-here : (l : List ℕ) (k n : ℕ) → k < length l → getD l k 0 ≡ n → among (drop k l) n ≡ true

@@ -1,2 +1,3 @@
 pub mod Sound
 pub mod Among
+pub mod Verdicts

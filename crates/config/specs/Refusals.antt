@@ -1,5 +1,8 @@
 -- Document 01's refusal numbers by name, in the order in which they are tested. Definitions only.
+use mathlib.Core.Bool.{cond}
 use Prim.Native.Nat.{ℕ}
+use lib.Dec.{eqb}
+use Rattle.config.specs.declared.Verdict.{Verdict}
 
 -- "0 is acceptance"
 abbrev pub accepted : ℕ
@@ -48,3 +51,7 @@ badVersion = 10
 -- "last frame of the file cut"
 abbrev pub cutFrame : ℕ
 cutFrame = 11
+
+-- "the index is 0 but for 6 and 7": the verdict with a number of the first six, where i is the first place that does not pass 6
+abbrev pub verdictOf : ℕ → ℕ → Verdict
+verdictOf n i = record { number = n; index = cond (eqb n badValue) i 0 }

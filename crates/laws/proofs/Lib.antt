@@ -4,3 +4,5 @@ pub mod Arms
 pub mod Passes
 pub mod Sign
 pub mod Order
+pub mod Parts
+pub mod Bools

@@ -11,7 +11,7 @@ use borrow.Author.Count.{below-more}
 use borrow.Author.Tests.{eq-eqb, ne-eqb}
 use lib.Dec.{eqb}
 use lib.ListN.{length, getD, take, drop, set, length-set}
-use lib.Seq.{drop-cons, set-at, append-snoc, drop-length, getD-at}
+use lib.Seq.{drop-cons, set-at, append-snoc, drop-length, getD-at, ext-getD}
 use Rattle.laws.specs.Lists.{tab, first}
 
 pub length-tab : {A : Type 0} (n : ℕ) (f : ℕ → A) → length (tab n f) ≡ n
@@ -24,6 +24,10 @@ unfolding tab
 getD-tab zero f d k h = absurd (not-suc-le-zero h)
 getD-tab (suc n) f d zero h = refl
 getD-tab (suc n) f d (suc k) h = getD-tab n (λ k. f (suc k)) d k (le-of-suc-le-suc h)
+
+-- a list whose places are f's is the tab of f
+pub is-tab : {A : Type 0} (d : A) (l : List A) (n : ℕ) (f : ℕ → A) → length l ≡ n → ((k : ℕ) → k < n → getD l k d ≡ f k) → l ≡ tab n f
+is-tab d l n f e p = ext-getD d l (tab n f) (e ∙ sym (length-tab n f)) (λ k h. p k (omega arith) ∙ sym (getD-tab n f d k (omega arith)))
 
 -- two that agree at each place
 pub tab-ext : {A : Type 0} (n : ℕ) (f g : ℕ → A) → ((k : ℕ) → k < n → f k ≡ g k) → tab n f ≡ tab n g

@@ -1,0 +1,22 @@
+-- What a number of acceptance says of the tests that gave it. Assumes nothing.
+use mathlib.Core.Path.{_≡_}
+use mathlib.Core.Bool.{Bool, true, false, cond, _&&_}
+use Prim.Native.Nat.{ℕ}
+use lib.Dec.{T, eqb, eqb→eq}
+use lib.Ieee.Fits.{and-l, and-r}
+use borrow.Author.Tests.{eq-eqb, ne-eqb}
+
+-- a test that was passed, and the number of those after it
+pub passed : (b : Bool) (v k : ℕ) → (k ≡ 0 → ⊥) → cond b v k ≡ 0 → T b × (v ≡ 0)
+passed true v k h e = (tt, e)
+passed false v k h e = absurd (h e)
+
+-- two lengths tested together
+pub both-are : (a b n : ℕ) → T (eqb a n && eqb b n) → (a ≡ n) × (b ≡ n)
+both-are a b n t = (eqb→eq a n (and-l (eqb a n) (eqb b n) t), eqb→eq b n (and-r (eqb a n) (eqb b n) t))
+
+pub first-is-not : (a b n : ℕ) → (a ≡ n → ⊥) → (eqb a n && eqb b n) ≡ false
+first-is-not a b n h = rw (ne-eqb a n h)
+
+pub second-is-not : (a b n : ℕ) → a ≡ n → (b ≡ n → ⊥) → (eqb a n && eqb b n) ≡ false
+second-is-not a b n e h = rw (eq-eqb a n e, ne-eqb b n h)
