@@ -1,6 +1,6 @@
 -- The twiddles of each FFT size and the gain of each length, as the Rust computes them (kissfft.rs, dct_iv.rs, modified_dct.rs). Definitions only.
 use mathlib.Core.Bool.{Bool, true, false, cond}
-use mathlib.Core.List.{List, [], _∷_, map}
+use mathlib.Core.List.{List, [], _∷_, _++_, map}
 use Prim.Native.Nat.{ℕ, _+_, _*_}
 use lib.Dec.{ltb, eqb}
 use lib.ListN.{take, drop}
@@ -29,10 +29,18 @@ fftRe n = part fftReBits n
 unfoldable pub fftIm : ℕ → List Float
 fftIm n = part fftImBits n
 
+-- the table of size n as the code has it: the real parts, then the imaginary parts
+unfoldable pub fftTable : ℕ → List Float
+fftTable n = fftRe n ++ fftIm n
+
 -- "The inverse table negates each imaginary part."
 unfoldable pub fftImOf : Bool → ℕ → List Float
 fftImOf false n = fftIm n
 fftImOf true n = map neg (fftIm n)
+
+-- the table of size n as the direction has it
+unfoldable pub directed : Bool → ℕ → List Float
+directed inverse n = fftRe n ++ fftImOf inverse n
 
 -- FFT twiddle k of n, forward or inverse
 unfoldable pub twiddle : ℕ → Bool → ℕ → Complex
@@ -44,6 +52,10 @@ dctRe n = part dctReBits n
 
 unfoldable pub dctIm : ℕ → List Float
 dctIm n = part dctImBits n
+
+-- the table of size n as the code has it: the real parts, then the imaginary parts
+unfoldable pub dctTable : ℕ → List Float
+dctTable n = dctRe n ++ dctIm n
 
 -- DCT twiddle k of n
 unfoldable pub dctTwiddle : ℕ → ℕ → Complex

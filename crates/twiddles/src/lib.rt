@@ -9,42 +9,24 @@ mod fft; // fft.rt: the FFT's twiddles
 mod dct; // dct.rt: the DCT's twiddles
 mod gains; // gains.rt: the gains
 
-pub use dct::dct_im_30;
-pub use dct::dct_im_40;
-pub use dct::dct_im_60;
-pub use dct::dct_im_80;
-pub use dct::dct_im_90;
-pub use dct::dct_im_120;
-pub use dct::dct_im_160;
-pub use dct::dct_im_180;
-pub use dct::dct_im_240;
-pub use dct::dct_re_30;
-pub use dct::dct_re_40;
-pub use dct::dct_re_60;
-pub use dct::dct_re_80;
-pub use dct::dct_re_90;
-pub use dct::dct_re_120;
-pub use dct::dct_re_160;
-pub use dct::dct_re_180;
-pub use dct::dct_re_240;
-pub use fft::fft_im_30;
-pub use fft::fft_im_40;
-pub use fft::fft_im_60;
-pub use fft::fft_im_80;
-pub use fft::fft_im_90;
-pub use fft::fft_im_120;
-pub use fft::fft_im_160;
-pub use fft::fft_im_180;
-pub use fft::fft_im_240;
-pub use fft::fft_re_30;
-pub use fft::fft_re_40;
-pub use fft::fft_re_60;
-pub use fft::fft_re_80;
-pub use fft::fft_re_90;
-pub use fft::fft_re_120;
-pub use fft::fft_re_160;
-pub use fft::fft_re_180;
-pub use fft::fft_re_240;
+pub use dct::dct_30;
+pub use dct::dct_40;
+pub use dct::dct_60;
+pub use dct::dct_80;
+pub use dct::dct_90;
+pub use dct::dct_120;
+pub use dct::dct_160;
+pub use dct::dct_180;
+pub use dct::dct_240;
+pub use fft::fft_30;
+pub use fft::fft_40;
+pub use fft::fft_60;
+pub use fft::fft_80;
+pub use fft::fft_90;
+pub use fft::fft_120;
+pub use fft::fft_160;
+pub use fft::fft_180;
+pub use fft::fft_240;
 pub use gains::gain;
 
 // Entry. Every number gets the other sign: what the inverse FFT does to its imaginary parts.
