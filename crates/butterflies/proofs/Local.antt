@@ -10,7 +10,8 @@ use Rattle.complex.specs.declared.Complex.{Complex}
 use Rattle.complex.specs.Complex.{parts, times, upd}
 use Rattle.laws.specs.Lists.{tab}
 use Rattle.laws.proofs.Lists.{getD-tab}
-use Rattle.butterflies.specs.Butterflies.{two, three, four, five, twist, writes, col, column2, column3, column4, column5}
+use Rattle.columns.specs.Column.{two, three, four, five, col}
+use Rattle.butterflies.specs.Butterflies.{twist, writes, column2, column3, column4, column5}
 use Rattle.butterflies.proofs.Columns.{Local}
 
 -- b depends on the first p of a column

@@ -19,17 +19,12 @@ use Rattle.complex.specs.declared.Complex.{Complex}
 use Rattle.complex.specs.Complex.{at}
 use Rattle.config.specs.Tables.{rows}
 use Rattle.config.specs.Config.{row, half, among, fftSizes, dctLengths}
-use Rattle.config.proofs.Among.{at-among, outside-among}
+use Rattle.config.proofs.Among.{at-among, same-among, last-among}
+use Rattle.config.proofs.Verdicts.{passed}
 use Rattle.twiddles.specs.Tables.{sizes}
-use Rattle.twiddles.specs.Twiddles.{fftRe, fftIm, fftImOf, twiddle, dctRe, dctIm, dctTwiddle, lengths}
-use Rattle.kissfft.specs.declared.Verdict.{Verdict}
+use Rattle.twiddles.specs.Twiddles.{fftRe, fftImOf, twiddle, dctRe, dctIm, dctTwiddle, lengths}
+use Rattle.config.specs.declared.Verdict.{Verdict}
 use Rattle.dct_iv.specs.DctIv.{dctBy, dctIv, number, verdict, left, answer}
-
-ext : (p q : Bool) → (T p → T q) → (T q → T p) → p ≡ q
-ext true true f g = refl
-ext true false f g = absurd (f tt)
-ext false true f g = absurd (g tt)
-ext false false f g = refl
 
 ours : T (every (λ k n. among lengths n) 0 dctLengths)
 unfolding sizes dctLengths row rows
@@ -41,7 +36,7 @@ theirs = tt
 
 -- a length of the configurations is a length of the tables, and the other way round
 pub same-lengths : (n : ℕ) → among dctLengths n ≡ among lengths n
-same-lengths n = ext (among dctLengths n) (among lengths n) (at-among (among lengths) dctLengths ours n) (at-among (among dctLengths) lengths theirs n)
+same-lengths n = same-among dctLengths lengths ours theirs n
 
 abbrev fits : ℕ → Bool
 fits n = among fftSizes (n / 2) && (eqb n (2 * (n / 2)) && leb (n / 2) 240)
@@ -78,14 +73,12 @@ unfolding dctLengths row rows
 ends = tt
 
 pub last-length : (n : ℕ) → T (among dctLengths n) → Outside shorter n Unit → n ≡ 480
-last-length n s o =
-    let t : T (among shorter n || eqb 480 n) = at-among (λ n. among shorter n || eqb 480 n) dctLengths ends n s in
-    sym (eqb→eq 480 n (rw (outside-among shorter n Unit o) at t))
+last-length = last-among dctLengths shorter 480 ends
 
 -- with the tables of its length
 pub is-dct : (buf dr di tr ti out : List Float) (n : ℕ) → let c = length buf / 2 in
-    dr ≡ dctRe c → di ≡ dctIm c → tr ≡ fftRe c → ti ≡ fftIm c → n ≡ c → out ≡ dctBy (at dr di) (at tr ti) n buf → out ≡ dctIv buf
-unfolding dctIv dctTwiddle twiddle fftImOf
+    dr ≡ dctRe c → di ≡ dctIm c → tr ≡ fftRe c → ti ≡ fftImOf false c → n ≡ c → out ≡ dctBy (at dr di) (at tr ti) n buf → out ≡ dctIv buf
+unfolding dctIv dctTwiddle twiddle
 is-dct buf dr di tr ti out n e1 e2 e3 e4 e5 e = e ∙ (λ j. dctBy (at (e1 j) (e2 j)) (at (e3 j) (e4 j)) (e5 j) buf)
 
 module _ (n : ℕ) (buf : List Float) where
@@ -108,10 +101,6 @@ module _ (n : ℕ) (buf : List Float) where
   unfolding verdict number
   says-0 k e i is l = rw (k, eq-eqb (length buf) n e, le-ltb (first passes6 buf) n (rw is at l))
 
-pick : (b : Bool) (v k : ℕ) → (k ≡ 0 → ⊥) → cond b v k ≡ 0 → T b × (v ≡ 0)
-pick true v k h e = (tt, e)
-pick false v k h e = absurd (h e)
-
 module _ (n : ℕ) (buf : List Float) (v : Verdict) (e : v ≡ verdict n buf) where
   is : number n buf ≡ v .number
   unfolding verdict
@@ -121,8 +110,8 @@ module _ (n : ℕ) (buf : List Float) (v : Verdict) (e : v ≡ verdict n buf) wh
   pub accepts : v .number ≡ 0 → T (among dctLengths n) × (length buf ≡ n)
   unfolding number
   accepts z =
-      let p1 = pick (among dctLengths n) _ 2 (λ y. omega arith) (is ∙ z) in
-      let p2 = pick (eqb (length buf) n) _ 3 (λ y. omega arith) (p1 .1) in
+      let p1 = passed (among dctLengths n) _ 2 (λ y. omega arith) (is ∙ z) in
+      let p2 = passed (eqb (length buf) n) _ 3 (λ y. omega arith) (p1 .1) in
       (p1 .0, eqb→eq (length buf) n (p2 .0))
 
   pub refused : (v .number ≡ 0 → ⊥) → left v buf ≡ answer n buf

@@ -16,7 +16,7 @@ use Rattle.laws.specs.Lists.{tab}
 use Rattle.laws.proofs.Lists.{length-tab, getD-tab, tab-ext}
 use Rattle.complex.specs.declared.Complex.{Complex}
 use Rattle.complex.specs.Complex.{times, at}
-use Rattle.kissfft.specs.Kissfft.{spectrum, reals, imaginaries}
+use Rattle.kf_work.specs.Work.{spectrum, reals, imaginaries}
 use Rattle.dct_iv.specs.DctIv.{point, double, placed, dctBy, dctIv}
 
 module _ (c : ℕ) (z : ℕ → Complex) where

@@ -10,10 +10,10 @@ use Rattle.laws.specs.Passes.{passes6}
 use Rattle.complex.specs.declared.Complex.{Complex}
 use Rattle.complex.specs.Complex.{parts, times, at}
 use Rattle.config.specs.Config.{among, dctLengths}
-use Rattle.config.specs.Refusals.{accepted, badSize, badInput, badValue}
+use Rattle.config.specs.declared.Verdict.{Verdict}
+use Rattle.config.specs.Refusals.{accepted, badSize, badInput, badValue, verdictOf}
 use Rattle.twiddles.specs.Twiddles.{twiddle, dctTwiddle}
-use Rattle.kissfft.specs.declared.Verdict.{Verdict}
-use Rattle.kissfft.specs.Kissfft.{spectrum, reals, imaginaries}
+use Rattle.kf_work.specs.Work.{spectrum, reals, imaginaries}
 
 -- "Point n is twiddle n times (buf[2n], buf[nf-2n-1])", with the twiddles d
 abbrev pub point : (ℕ → Complex) → List Float → ℕ → Complex
@@ -43,9 +43,8 @@ unfoldable pub number : ℕ → List Float → ℕ
 number n buf =
     cond (among dctLengths n) (cond (eqb (length buf) n) (cond (ltb (first passes6 buf) n) badValue accepted) badInput) badSize
 
--- "the index is 0 but for 6 and 7"
 unfoldable pub verdict : ℕ → List Float → Verdict
-verdict n buf = record { number = number n buf; index = cond (eqb (number n buf) badValue) (first passes6 buf) 0 }
+verdict n buf = verdictOf (number n buf) (first passes6 buf)
 
 -- a call's verdict, and its buffer as it returns
 pub record Answer : Type 0 where

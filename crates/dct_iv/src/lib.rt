@@ -10,50 +10,32 @@ ghost use lib.Ieee.{binary32, ofBits};
 ghost use Rattle.laws.specs.Lists.{tab};
 ghost use Rattle.complex.specs.Complex.{at, times};
 ghost use Rattle.config.specs.Config.{among, fftSizes, dctLengths};
-ghost use Rattle.twiddles.specs.Twiddles.{fftRe, fftIm, dctRe, dctIm};
-ghost use Rattle.kissfft.specs.Kissfft.{within, spectrum, reals, imaginaries};
+ghost use Rattle.twiddles.specs.Twiddles.{fftTable, dctTable};
+ghost use Rattle.kf_work.specs.Work.{within, spectrum, reals, imaginaries};
 ghost use Rattle.dct_iv.specs.DctIv.{point, placed, dctBy, dctIv, verdict, left, answer};
 use complex::Complex;
 use complex::get;
 use complex::put;
-use kissfft::Verdict;
-use kissfft::transform;
-use twiddles::dct_im_30;
-use twiddles::dct_im_40;
-use twiddles::dct_im_60;
-use twiddles::dct_im_80;
-use twiddles::dct_im_90;
-use twiddles::dct_im_120;
-use twiddles::dct_im_160;
-use twiddles::dct_im_180;
-use twiddles::dct_im_240;
-use twiddles::dct_re_30;
-use twiddles::dct_re_40;
-use twiddles::dct_re_60;
-use twiddles::dct_re_80;
-use twiddles::dct_re_90;
-use twiddles::dct_re_120;
-use twiddles::dct_re_160;
-use twiddles::dct_re_180;
-use twiddles::dct_re_240;
-use twiddles::fft_im_30;
-use twiddles::fft_im_40;
-use twiddles::fft_im_60;
-use twiddles::fft_im_80;
-use twiddles::fft_im_90;
-use twiddles::fft_im_120;
-use twiddles::fft_im_160;
-use twiddles::fft_im_180;
-use twiddles::fft_im_240;
-use twiddles::fft_re_30;
-use twiddles::fft_re_40;
-use twiddles::fft_re_60;
-use twiddles::fft_re_80;
-use twiddles::fft_re_90;
-use twiddles::fft_re_120;
-use twiddles::fft_re_160;
-use twiddles::fft_re_180;
-use twiddles::fft_re_240;
+use config::Verdict;
+use kf_work::transform;
+use twiddles::dct_30;
+use twiddles::dct_40;
+use twiddles::dct_60;
+use twiddles::dct_80;
+use twiddles::dct_90;
+use twiddles::dct_120;
+use twiddles::dct_160;
+use twiddles::dct_180;
+use twiddles::dct_240;
+use twiddles::fft_30;
+use twiddles::fft_40;
+use twiddles::fft_60;
+use twiddles::fft_80;
+use twiddles::fft_90;
+use twiddles::fft_120;
+use twiddles::fft_160;
+use twiddles::fft_180;
+use twiddles::fft_240;
 // The points: twiddle n times the value at 2n and the value as far from the end.
 fn turn_in(buf: &[f32], dr: &[f32], di: &[f32], xr: &mut [f32], xi: &mut [f32])
     requires { ⌜ (length (now buf) ≡ 2 * length (now xr)) × (length (now dr) ≡ length (now xr)) × (length (now di) ≡ length (now xr)) × (length (now xi) ≡ length (now xr)) ⌝ }
@@ -108,21 +90,21 @@ fn zeros() -> [f32; 240]
 }
 
 // The DCT with the tables of its length, in work areas of its own.
-fn by(buf: &mut [f32], dr: &[f32], di: &[f32], tr: &[f32], ti: &[f32])
-    requires { ⌜ T (among fftSizes (length (now buf) / 2)) × (length (now buf) ≡ 2 * (length (now buf) / 2)) × (now dr ≡ dctRe (length (now buf) / 2)) × (now di ≡ dctIm (length (now buf) / 2)) × (now tr ≡ fftRe (length (now buf) / 2)) × (now ti ≡ fftIm (length (now buf) / 2)) ⌝ }
+fn by(buf: &mut [f32], d: &[f32], t: &[f32])
+    requires { ⌜ T (among fftSizes (length (now buf) / 2)) × (length (now buf) ≡ 2 * (length (now buf) / 2)) × (now d ≡ dctTable (length (now buf) / 2)) × (now t ≡ fftTable (length (now buf) / 2)) ⌝ }
     ensures { λ _. ⌜ now (buf .exit) ≡ dctIv (now (buf .entry)) ⌝ }
 {
-    let c = dr.len();
+    let c = buf.len() / 2;
     let mut xr = zeros();
     let mut xi = zeros();
     let mut ar = zeros();
     let mut ai = zeros();
     steps(
         buf,
-        dr,
-        di,
-        tr,
-        ti,
+        &d[..c],
+        &d[c..],
+        &t[..c],
+        &t[c..],
         &mut xr[..c],
         &mut xi[..c],
         &mut ar[..c],
@@ -136,39 +118,15 @@ pub fn run(buf: &mut [f32])
     ensures { λ _. ⌜ now (buf .exit) ≡ dctIv (now (buf .entry)) ⌝ }
 {
     match buf.len() {
-        60 => by(buf, &dct_re_30(), &dct_im_30(), &fft_re_30(), &fft_im_30()),
-        80 => by(buf, &dct_re_40(), &dct_im_40(), &fft_re_40(), &fft_im_40()),
-        120 => by(buf, &dct_re_60(), &dct_im_60(), &fft_re_60(), &fft_im_60()),
-        160 => by(buf, &dct_re_80(), &dct_im_80(), &fft_re_80(), &fft_im_80()),
-        180 => by(buf, &dct_re_90(), &dct_im_90(), &fft_re_90(), &fft_im_90()),
-        240 => by(
-            buf,
-            &dct_re_120(),
-            &dct_im_120(),
-            &fft_re_120(),
-            &fft_im_120(),
-        ),
-        320 => by(
-            buf,
-            &dct_re_160(),
-            &dct_im_160(),
-            &fft_re_160(),
-            &fft_im_160(),
-        ),
-        360 => by(
-            buf,
-            &dct_re_180(),
-            &dct_im_180(),
-            &fft_re_180(),
-            &fft_im_180(),
-        ),
-        _ => by(
-            buf,
-            &dct_re_240(),
-            &dct_im_240(),
-            &fft_re_240(),
-            &fft_im_240(),
-        ),
+        60 => by(buf, &dct_30(), &fft_30()),
+        80 => by(buf, &dct_40(), &fft_40()),
+        120 => by(buf, &dct_60(), &fft_60()),
+        160 => by(buf, &dct_80(), &fft_80()),
+        180 => by(buf, &dct_90(), &fft_90()),
+        240 => by(buf, &dct_120(), &fft_120()),
+        320 => by(buf, &dct_160(), &fft_160()),
+        360 => by(buf, &dct_180(), &fft_180()),
+        _ => by(buf, &dct_240(), &fft_240()),
     }
 }
 

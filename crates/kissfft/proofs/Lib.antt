@@ -1,7 +1,1 @@
-pub mod Factor
-pub mod Spread
-pub mod Plan
-pub mod Parts
-pub mod Sizes
 pub mod Judged
-pub mod Facts

@@ -9,10 +9,10 @@ use Rattle.laws.specs.Lists.{first}
 use Rattle.laws.specs.Passes.{passes6}
 use Rattle.complex.specs.Complex.{at}
 use Rattle.config.specs.Config.{among, fftSizes}
-use Rattle.config.specs.Refusals.{accepted, badSize, badInput, badOutput, badValue}
+use Rattle.config.specs.declared.Verdict.{Verdict}
+use Rattle.config.specs.Refusals.{accepted, badSize, badInput, badOutput, badValue, verdictOf}
 use Rattle.twiddles.specs.Twiddles.{twiddle}
-use Rattle.kissfft.specs.Kissfft.{spectrum, reals, imaginaries}
-use Rattle.kissfft.specs.declared.Verdict.{Verdict}
+use Rattle.kf_work.specs.Work.{spectrum, reals, imaginaries}
 
 -- "the lowest place where either part is so"
 abbrev pub firstBad : List Float → List Float → ℕ
@@ -27,10 +27,8 @@ number size x y c d =
     badInput)
     badSize
 
--- "the index is 0 but for 6 and 7"
 unfoldable pub verdict : ℕ → List Float → List Float → ℕ → ℕ → Verdict
-verdict size x y c d =
-    record { number = number size x y c d; index = cond (eqb (number size x y c d) badValue) (firstBad x y) 0 }
+verdict size x y c d = verdictOf (number size x y c d) (firstBad x y)
 
 -- a call's verdict, and its two output slices as it returns
 pub record Answer : Type 0 where

@@ -1,2 +1,1 @@
-pub mod Kissfft
 pub mod Fft

@@ -5,7 +5,8 @@ use native.Mathlib.Omega.{arith}
 use borrow.Author.Needs.{needs}
 use Rattle.complex.specs.Complex.{at}
 use Rattle.laws.specs.Lists.{tab}
-use Rattle.butterflies.specs.Butterflies.{two, twist}
+use Rattle.columns.specs.Column.{two}
+use Rattle.butterflies.specs.Butterflies.{twist}
 use Rattle.butterflies.proofs.Local.{first, second, sees2, turn-done}
 use Rattle.butterflies.proofs.turn2.Statement.{statement}
 use Rattle.butterflies.proofs.turn2.Tie as tie

@@ -5,7 +5,8 @@ use native.Mathlib.Omega.{arith}
 use borrow.Author.Needs.{needs}
 use Rattle.complex.specs.Complex.{at}
 use Rattle.laws.specs.Lists.{tab}
-use Rattle.butterflies.specs.Butterflies.{three, twist}
+use Rattle.columns.specs.Column.{three}
+use Rattle.butterflies.specs.Butterflies.{twist}
 use Rattle.butterflies.proofs.Local.{first, second, sees3, turn-done}
 use Rattle.butterflies.proofs.turn3.Statement.{statement}
 use Rattle.butterflies.proofs.turn3.Tie as tie

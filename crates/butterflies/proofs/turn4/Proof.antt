@@ -5,7 +5,8 @@ use native.Mathlib.Omega.{arith}
 use borrow.Author.Needs.{needs}
 use Rattle.complex.specs.Complex.{at}
 use Rattle.laws.specs.Lists.{tab}
-use Rattle.butterflies.specs.Butterflies.{four, twist}
+use Rattle.columns.specs.Column.{four}
+use Rattle.butterflies.specs.Butterflies.{twist}
 use Rattle.butterflies.proofs.Local.{first, second, sees4, turn-done}
 use Rattle.butterflies.proofs.turn4.Statement.{statement}
 use Rattle.butterflies.proofs.turn4.Tie as tie

@@ -5,7 +5,8 @@ use native.Mathlib.Omega.{arith}
 use borrow.Author.Needs.{needs}
 use Rattle.complex.specs.Complex.{at}
 use Rattle.laws.specs.Lists.{tab}
-use Rattle.butterflies.specs.Butterflies.{five, twist}
+use Rattle.columns.specs.Column.{five}
+use Rattle.butterflies.specs.Butterflies.{twist}
 use Rattle.butterflies.proofs.Local.{first, second, sees5, turn-done}
 use Rattle.butterflies.proofs.turn5.Statement.{statement}
 use Rattle.butterflies.proofs.turn5.Tie as tie

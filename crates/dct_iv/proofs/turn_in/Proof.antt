@@ -5,9 +5,9 @@ use native.Mathlib.Omega.{arith}
 use lib.ListN.{length}
 use borrow.Author.Needs.{needs}
 use Rattle.complex.specs.Complex.{at, times}
-use Rattle.kissfft.specs.Kissfft.{within}
-use Rattle.kissfft.proofs.Spread.{within-none, filled}
-use Rattle.kissfft.proofs.Sizes.{are-lists}
+use Rattle.kf_work.specs.Work.{within}
+use Rattle.kf_work.proofs.Spread.{within-none, filled}
+use Rattle.kf_work.proofs.Sizes.{are-lists}
 use Rattle.dct_iv.specs.DctIv.{point}
 use Rattle.dct_iv.proofs.turn_in.Statement.{statement}
 use Rattle.dct_iv.proofs.turn_in.Tie as tie

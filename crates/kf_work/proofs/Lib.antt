@@ -1,0 +1,6 @@
+pub mod Factor
+pub mod Spread
+pub mod Plan
+pub mod Parts
+pub mod Sizes
+pub mod Facts
