@@ -11,7 +11,8 @@ use lib.Ieee.{Float}
 use borrow.Author.Tests.{not-true, not-false, eq-eqb, ne-eqb, eqb-true}
 use Rattle.config.specs.Config.{valid, nf, nb}
 use Rattle.analysis.specs.declared.Channel.{Channel}
-use Rattle.analysis.specs.Analysis.{linesOf, energiesOf, flagOf, keptOf, channelOf, clearing, cleared, Lent, Given, number, accepted, framed, frames}
+use Rattle.analysis_lines.specs.Lines.{linesOf}
+use Rattle.analysis.specs.Analysis.{energiesOf, flagOf, keptOf, channelOf, clearing, cleared, Lent, Given, number, accepted, framed, frames}
 
 pub clear-is : (c : ℕ) (b v : Bool) → v ≡ b → v ≡ valid c → cleared c ≡ clearing b c
 unfolding cleared

@@ -2,53 +2,25 @@
 use mathlib.Core.Path.{_≡_, sym, ap, ap₂, subst, _∙_}
 use mathlib.Core.Bool.{Bool, false}
 use mathlib.Core.List.{List, _++_}
-use Prim.Native.Nat.{ℕ, _+_, _-_, _*_, _≤_, _<_}
+use Prim.Native.Nat.{ℕ, _+_, _-_, _≤_, _<_}
 use native.Mathlib.Omega.{arith}
 use lib.Dec.{T}
 use lib.IntN.{ℤ, pos}
-use lib.ListN.{length, getD, take, drop, replicate, length-drop}
-use lib.Seq.{take-at}
+use lib.ListN.{length, getD, drop, replicate, length-drop}
 use lib.Ieee.{Float}
 use borrow.Author.Tests.{le-leb, lt-leb}
 use Rattle.laws.specs.Lists.{tab}
 use Rattle.laws.proofs.Lists.{tab-at}
-use Rattle.config.specs.Config.{valid, nf, z, nb, rate, upper, edges, among, dctLengths}
+use Rattle.config.specs.Config.{valid, nf, z, nb, rate, upper, edges}
 use Rattle.config.proofs.Sound.{sound}
-use Rattle.windows.specs.Windows.{window}
-use Rattle.twiddles.specs.Twiddles.{gain}
-use Rattle.dct_iv.specs.DctIv.{dctIv}
 use Rattle.analysis_steps.specs.Buffer.{pastOf, bufferStep, bufferOf}
-use Rattle.analysis_steps.specs.Fold.{folded, gained}
 use Rattle.analysis_steps.specs.Energy.{energies, exceeds, Rising}
-use Rattle.analysis_steps.proofs.Buffers.{past-of, length-step, past-of-step}
-use Rattle.analysis.specs.Analysis.{timeBuffer, mdct, linesOf, energiesOf, flagOf, keptOf, channelOf, held}
-
--- a configuration's frame has a length that the DCT takes
-pub dct-takes : (c n : ℕ) → T (valid c) → n ≡ nf c → T (among dctLengths n)
-dct-takes c n v e = subst (λ (m : ℕ). T (among dctLengths m)) (sym e) (sound c v .dct-length)
-
--- fold, DCT, gain
-pub made-mdct : (c n k : ℕ) (w : List ℕ) (t : List ℤ) (g : Float) (a b d : List Float)
-    → n ≡ nf c → w ≡ window c → a ≡ folded n w t → b ≡ dctIv a → g ≡ gain k → k ≡ nf c → d ≡ gained g b → d ≡ mdct c t
-unfolding mdct
-made-mdct c n k w t g a b d en ew ea eb eg ek ed =
-    ed ∙ ap₂ gained (eg ∙ ap gain ek) (eb ∙ ap dctIv (ea ∙ ap₂ (λ (i : ℕ) (v : List ℕ). folded i v t) en ew))
+use Rattle.analysis_steps.proofs.Buffers.{past-of, past-of-step}
+use Rattle.analysis_lines.specs.Lines.{timeBuffer}
+use Rattle.analysis_lines.proofs.Made.{fits}
+use Rattle.analysis.specs.Analysis.{energiesOf, flagOf, keptOf, channelOf, held}
 
 module _ (c : ℕ) (past x : List ℤ) (v : T (valid c)) (hp : length past ≡ nf c - z c) (hx : length x ≡ nf c) where
-  -- the past and the zeros are a frame's length
-  fits : length past + z c ≡ nf c
-  fits = let s = sound c v in omega arith
-
-  -- the time buffer, then the lines
-  pub made-lines : (k : ℕ) (t r : List ℤ) (l : List Float)
-      → k ≡ z c → t ≡ bufferStep (length x) k (bufferOf (length x) k past) x ++ r → l ≡ mdct c (take (2 * length x) t) → l ≡ linesOf c past x
-  unfolding linesOf timeBuffer
-  made-lines k t r l ek et el =
-      el
-      ∙ ap (mdct c)
-      (ap (take (2 * length x)) (et ∙ ap₂ (λ (n m : ℕ). bufferStep n m (bufferOf n m past) x ++ r) hx ek)
-      ∙ take-at (bufferStep (nf c) (z c) (bufferOf (nf c) (z c) past) x) r (2 * length x) (length-step (nf c) (z c) past fits x hx ∙ ap (λ (n : ℕ). 2 * n) (sym hx)))
-
   last-length : length (drop (z c) x) ≡ nf c - z c
   last-length = length-drop (z c) x ∙ ap (λ (n : ℕ). n - z c) hx
 
@@ -58,13 +30,13 @@ module _ (c : ℕ) (past x : List ℤ) (v : T (valid c)) (hp : length past ≡ n
   made-kept k s ek es =
       es
       ∙ ap (λ (m : ℕ). drop m x ++ replicate (300 - length (drop m x)) (pos 0)) ek
-      ∙ ap₂ (λ (l : List ℤ) (n : ℕ). l ++ replicate (300 - n) (pos 0)) (sym (past-of-step (nf c) (z c) past fits x hx)) last-length
+      ∙ ap₂ (λ (l : List ℤ) (n : ℕ). l ++ replicate (300 - n) (pos 0)) (sym (past-of-step (nf c) (z c) past (fits c past x v hp hx) x hx)) last-length
 
   -- the past of a channel that keeps this frame: the frame's last samples
   pub next-past : held (channelOf c (keptOf c past x)) ≡ drop (z c) x
   unfolding keptOf timeBuffer
   next-past =
-      ap (λ (l : List ℤ). tab (nf c - z c) (λ k. getD (l ++ replicate (300 - (nf c - z c)) (pos 0)) k (pos 0))) (past-of-step (nf c) (z c) past fits x hx)
+      ap (λ (l : List ℤ). tab (nf c - z c) (λ k. getD (l ++ replicate (300 - (nf c - z c)) (pos 0)) k (pos 0))) (past-of-step (nf c) (z c) past (fits c past x v hp hx) x hx)
       ∙ tab-at (drop (z c) x) (replicate (300 - (nf c - z c)) (pos 0)) (pos 0) (nf c - z c) last-length
 
   -- the next frame's time buffer is the step from this one's: the channel does what the Rust's time buffer does
@@ -75,7 +47,7 @@ module _ (c : ℕ) (past x : List ℤ) (v : T (valid c)) (hp : length past ≡ n
       ap (λ (p : List ℤ). p ++ y ++ replicate (z c) (pos 0))
       (ap (λ (p : List ℤ). pastOf (nf c) (z c) (bufferOf (nf c) (z c) p)) next-past
       ∙ past-of (nf c) (z c) (drop (z c) x) (ap (λ (n : ℕ). n + z c) last-length ∙ omega arith)
-      ∙ sym (past-of-step (nf c) (z c) past fits x hx))
+      ∙ sym (past-of-step (nf c) (z c) past (fits c past x v hp hx) x hx))
 
 -- the edges that the code has at hand
 pub edges-rise : (c n m : ℕ) (es : List ℕ) → T (valid c) → n ≡ nb c → m ≡ nf c → es ≡ edges c → Rising n es m

@@ -9,29 +9,14 @@ use lib.Ieee.{Float}
 use Rattle.laws.specs.Lists.{tab}
 use Rattle.config.specs.Config.{valid, nf, z, nb, rate, upper, edges}
 use Rattle.config.specs.Refusals as refusals
-use Rattle.windows.specs.Windows.{window}
-use Rattle.twiddles.specs.Twiddles.{gain}
-use Rattle.dct_iv.specs.DctIv.{dctIv}
-use Rattle.analysis_steps.specs.Buffer.{pastOf, bufferStep, bufferOf}
-use Rattle.analysis_steps.specs.Fold.{folded, gained}
+use Rattle.analysis_steps.specs.Buffer.{pastOf}
 use Rattle.analysis_steps.specs.Energy.{energies, exceeds}
+use Rattle.analysis_lines.specs.Lines.{timeBuffer, linesOf}
 use Rattle.analysis.specs.declared.Channel.{Channel}
 use Rattle.analysis.specs.declared.Cleared.{Cleared}
 use Rattle.analysis.specs.declared.Framed.{Framed}
 
 -- ---- THE DEFINITION, refusals aside
--- `update_time_buffer`: the time buffer of the frame x, from one that holds its past
-unfoldable pub timeBuffer : ℕ → List ℤ → List ℤ → List ℤ
-timeBuffer c past x = bufferStep (nf c) (z c) (bufferOf (nf c) (z c) past) x
-
--- `apply_mdct`: fold with window, DCT, gain
-unfoldable pub mdct : ℕ → List ℤ → List Float
-mdct c t = gained (gain (nf c)) (dctIv (folded (nf c) (window c) t))
-
--- the lines of the frame x after its past
-unfoldable pub linesOf : ℕ → List ℤ → List ℤ → List Float
-linesOf c past x = mdct c (timeBuffer c past x)
-
 -- `apply_energy_estimation`
 unfoldable pub energiesOf : ℕ → List Float → List Float
 energiesOf c lines = energies (nb c) (edges c) lines

@@ -5,7 +5,7 @@ use mathlib.Core.List.{List, [], _∷_, _++_}
 use Prim.Native.Nat.{ℕ}
 use lib.ListN.{replicate}
 use lib.Ieee.{Float, binary32, ofBits}
-use Rattle.analysis_steps.specs.Energy.{zero32}
+use Rattle.laws.specs.Numbers.{zero32}
 use Rattle.analysis.specs.Analysis.{flagOf}
 
 -- 64 energies, zero but band 0 = 1.0 and band 62 = the value whose bits are b

@@ -2,24 +2,25 @@
 // Ported from src/encoder/modified_dct.rs of lc3-codec 0.2.0, and changed: a configuration number picks the tables, the channel goes in by value
 // and comes back, the time buffer is the frame's own, and a call with wrong lengths is refused.
 ghost use mathlib.Core.Path.{_≡_};
-ghost use Prim.Native.Nat.{_-_, _*_};
 ghost use lib.Dec.{T};
 ghost use lib.ListN.{length};
-ghost use Rattle.config.specs.Config.{valid, nf, z, nb};
-ghost use Rattle.windows.specs.Windows.{window};
-ghost use Rattle.analysis.specs.Analysis.{mdct, linesOf, energiesOf, flagOf, keptOf, channelOf, held, silent, cleared, number, accepted, frames, lent, outcome};
+ghost use Rattle.config.specs.Config.{valid, nf, nb};
+ghost use Rattle.analysis.specs.Analysis.{energiesOf, flagOf, keptOf, channelOf, held, silent, cleared, number, accepted, frames, lent, outcome};
 
 // What a stream keeps between frames: the last samples of the frame before, and zeros at the places that its configuration has no use for.
+#[repr(C)]
 pub struct Channel {
     pub config: u8,
     pub samples: [i16; 300],
 }
 
+#[repr(C)]
 pub struct Cleared {
     pub number: u8,
     pub channel: Channel,
 }
 
+#[repr(C)]
 pub struct Framed {
     pub number: u8,
     pub flag: bool,
@@ -56,45 +57,6 @@ pub fn clear(config: u8) -> Cleared
             number: 1,
             channel: silent(255),
         }
-    }
-}
-
-// The time buffer to the lines: fold with the window, DCT, gain.
-fn apply_mdct(c: u8, w: &[u32], t: &[i16], lines: &mut [f32])
-    requires { ⌜ T (valid c) × (now w ≡ window c) × (length (now t) ≡ 2 * nf c) × (length (now lines) ≡ nf c) ⌝ }
-    ensures { λ _. ⌜ now (lines .exit) ≡ mdct c (now (t .entry)) ⌝ }
-{
-    analysis_steps::fold(t, w, lines);
-    dct_iv::run(lines);
-    analysis_steps::scale(lines, twiddles::gain(lines.len()));
-}
-
-// The lines, with the window at hand.
-fn lines_with(c: u8, w: &[u32], past: &[i16], input: &[i16], lines: &mut [f32])
-    requires { ⌜ T (valid c) × (now w ≡ window c) × (length (now past) ≡ nf c - z c) × (length (now input) ≡ nf c) × (length (now lines) ≡ nf c) ⌝ }
-    ensures { λ _. ⌜ now (lines .exit) ≡ linesOf c (now (past .entry)) (now (input .entry)) ⌝ }
-{
-    let t = analysis_steps::update_time_buffer(past, input, config::z(c));
-    let n = 2 * input.len();
-    apply_mdct(c, w, &t[..n], lines);
-}
-
-// Inner. The lines of a frame, after its past. The window is made once, here.
-pub fn lines_of(c: u8, past: &[i16], input: &[i16], lines: &mut [f32])
-    requires { ⌜ T (valid c) × (length (now past) ≡ nf c - z c) × (length (now input) ≡ nf c) × (length (now lines) ≡ nf c) ⌝ }
-    ensures { λ _. ⌜ now (lines .exit) ≡ linesOf c (now (past .entry)) (now (input .entry)) ⌝ }
-{
-    match c {
-        0 => lines_with(c, &windows::w_n60_7p5ms(), past, input, lines),
-        1 => lines_with(c, &windows::w_n120_7p5ms(), past, input, lines),
-        2 => lines_with(c, &windows::w_n180_7p5ms(), past, input, lines),
-        3 => lines_with(c, &windows::w_n240_7p5ms(), past, input, lines),
-        4 => lines_with(c, &windows::w_n360_7p5ms(), past, input, lines),
-        5 => lines_with(c, &windows::w_n80_10ms(), past, input, lines),
-        6 => lines_with(c, &windows::w_n160_10ms(), past, input, lines),
-        7 => lines_with(c, &windows::w_n240_10ms(), past, input, lines),
-        8 => lines_with(c, &windows::w_n320_10ms(), past, input, lines),
-        _ => lines_with(c, &windows::w_n480_10ms(), past, input, lines),
     }
 }
 
@@ -156,7 +118,7 @@ impl Channel {
         let samples = self.samples();
         let z = config::z(config);
         let keep = input.len() - z;
-        lines_of(config, &samples[..keep], input, lines);
+        analysis_lines::lines_of(config, &samples[..keep], input, lines);
         let flag = measured(config, lines, energies);
         Framed {
             number: 0,

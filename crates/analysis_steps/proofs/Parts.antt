@@ -1,19 +1,16 @@
 -- Parts of lists, as slices lent and given back have them. Assumes nothing.
 use mathlib.Core.Path.{_≡_, ap, _∙_}
-use mathlib.Core.List.{List, [], _++_, append-nil}
+use mathlib.Core.List.{List, _++_}
 use Prim.Native.Nat.{ℕ, _-_, _≤_}
 use native.Mathlib.Omega.{arith}
-use lib.ListN.{length, take, drop, length-take, length-drop, drop-of-length-le}
+use lib.ListN.{length, take, drop, length-take, length-drop}
 use lib.Seq.{take-at}
-use borrow.Rule.Slice.PartMut.{postOf, putMid}
+use borrow.Rule.Slice.PartMut.{putMid}
+use Rattle.laws.proofs.Parts.{put-tail}
 
 -- a list whose first h places a are kept, and whose rest, lent and given back, is b
 pub two-halves : {X : Type 0} (h : ℕ) (a r b : List X) → length a ≡ h → putMid h (length (a ++ r) - h) (a ++ r) b ≡ a ++ b
-two-halves {X} h a r b e =
-    let none : postOf h (length (a ++ r) - h) (a ++ r) ≡ [] = drop-of-length-le (drop h (a ++ r)) {i = length (a ++ r) - h} (omega (arith, length-drop h (a ++ r))) in
-    ap (λ (l : List X). l ++ (b ++ postOf h (length (a ++ r) - h) (a ++ r))) (take-at a r h e)
-    ∙ ap (λ (l : List X). a ++ (b ++ l)) none
-    ∙ ap (λ (l : List X). a ++ l) (append-nil b)
+two-halves {X} h a r b e = put-tail h (a ++ r) b ∙ ap (λ (l : List X). l ++ b) (take-at a r h e)
 
 -- a part is no longer than the whole
 pub part-short : {X : Type 0} (n k a : ℕ) (l : List X) → length l ≤ n → length (take k (drop a l)) ≤ n

@@ -11,7 +11,8 @@ use lib.Seq.{take-suc, take-length}
 use lib.Ieee.{Float, nan, binary32, add, ofBits, ofInt, inFloat}
 use denote.Floats.{passes}
 use borrow.Author.Tests.{le-leb}
-use Rattle.analysis_steps.specs.Energy.{zero32, sumOf, share, energy}
+use Rattle.laws.specs.Numbers.{zero32}
+use Rattle.analysis_steps.specs.Energy.{sumOf, share, energy}
 
 sum-snoc : (f : Float → Float) (acc : Float) (xs : List Float) (y : Float) → sumOf f acc (xs ++ (y ∷ [])) ≡ add binary32 (sumOf f acc xs) (f y)
 sum-snoc f acc [] y = refl

@@ -5,11 +5,8 @@ use Prim.Native.Nat.{ℕ, _+_, _-_, _≤_, _<_}
 use lib.IntN.{pos}
 use lib.ListN.{length, getD, take, drop}
 use lib.Ieee.{Float, fin, binary32, ofBits, add, mul, div, lt, ofInt}
+use Rattle.laws.specs.Numbers.{zero32}
 use Rattle.laws.specs.Lists.{tab}
-
--- 0.0
-abbrev pub zero32 : Float
-zero32 = fin false 0 (pos 0)
 
 -- f of each, added to acc in their order, each sum rounded
 abbrev pub sumOf : (Float → Float) → Float → List Float → Float

@@ -12,7 +12,8 @@ use Rattle.laws.specs.Lists.{first}
 use Rattle.laws.specs.Passes.{passes6}
 use Rattle.config.specs.Config.{valid, nf, ne}
 use Rattle.synthesis.specs.declared.Channel.{Channel}
-use Rattle.synthesis.specs.Synthesis.{samplesOf, keptOf, channelOf, clearing, cleared, Lent, Given, number, index, accepted, framed, frames}
+use Rattle.synthesis_samples.specs.Samples.{samplesOf}
+use Rattle.synthesis.specs.Synthesis.{keptOf, channelOf, clearing, cleared, Lent, Given, number, index, accepted, framed, frames}
 
 pub clear-is : (c : ℕ) (b v : Bool) → v ≡ b → v ≡ valid c → cleared c ≡ clearing b c
 unfolding cleared

@@ -12,9 +12,11 @@ use Rattle.config.proofs.Sound.{sound}
 use Rattle.windows.specs.Windows.{window}
 use Rattle.windows.proofs.Entries.{window-length}
 use Rattle.twiddles.specs.Twiddles.{gain}
-use Rattle.synthesis_steps.specs.Places.{zero32}
-use Rattle.synthesis_steps.proofs.Lengths.{length-places, length-remains, length-output, last-output}
-use Rattle.synthesis.specs.Synthesis.{placesOf, samplesOf, memoryOf, keptOf, channelOf, held}
+use Rattle.laws.specs.Numbers.{zero32}
+use Rattle.synthesis_steps.proofs.Lengths.{length-remains, length-output, last-output}
+use Rattle.synthesis_samples.proofs.Made.{length-places}
+use Rattle.synthesis_samples.specs.Samples.{placesOf, samplesOf, memoryOf}
+use Rattle.synthesis.specs.Synthesis.{keptOf, channelOf, held}
 
 module _ (c : ℕ) (v : T (valid c)) (x : List Float) (l : length x ≡ ne c) where
   length-placesOf : length (placesOf c x) ≡ 2 * nf c

@@ -7,28 +7,15 @@ use lib.ListN.{length, getD, replicate}
 use lib.Ieee.{Float}
 use Rattle.laws.specs.Lists.{tab, first}
 use Rattle.laws.specs.Passes.{passes6}
-use Rattle.config.specs.Config.{valid, nf, z, ne, half}
+use Rattle.config.specs.Config.{valid, nf, z, ne}
 use Rattle.config.specs.Refusals as refusals
-use Rattle.windows.specs.Windows.{window}
-use Rattle.twiddles.specs.Twiddles.{gain}
-use Rattle.synthesis_steps.specs.Places.{zero32, places, output, remains}
+use Rattle.laws.specs.Numbers.{zero32}
+use Rattle.synthesis_samples.specs.Samples.{samplesOf, memoryOf}
 use Rattle.synthesis.specs.declared.Channel.{Channel}
 use Rattle.synthesis.specs.declared.Cleared.{Cleared}
 use Rattle.synthesis.specs.declared.Framed.{Framed}
 
 -- ---- THE DEFINITION, refusals aside
--- the 2 nf places of a frame of lines, under the configuration's gain and window
-unfoldable pub placesOf : ℕ → List Float → List Float
-placesOf c x = places (half c) (gain (nf c)) (window c) x
-
--- the samples of a frame of lines after a past
-unfoldable pub samplesOf : ℕ → List Float → List Float → List Float
-samplesOf c past x = output (nf c) (z c) past (placesOf c x)
-
--- the memory that the frame leaves: the next one's past
-unfoldable pub memoryOf : ℕ → List Float → List Float
-memoryOf c x = remains (nf c) (z c) (placesOf c x)
-
 -- as a channel keeps it: +0.0 at the places that the configuration has no use for
 unfoldable pub keptOf : ℕ → List Float → List Float
 keptOf c x = memoryOf c x ++ replicate (300 - (nf c - z c)) zero32

@@ -2,37 +2,29 @@
 // Ported from src/decoder/modified_dct.rs of lc3-codec 0.2.0, and changed: a configuration number picks the tables, the channel goes in by value
 // and comes back, the work areas are the frame's own, and a call with wrong lengths or lines is refused.
 ghost use mathlib.Core.Path.{_≡_};
-ghost use Prim.Native.Nat.{_-_, _*_};
-ghost use lib.Dec.{T};
-ghost use lib.ListN.{length, replicate};
-ghost use Rattle.config.specs.Config.{valid, nf, z, ne};
-ghost use Rattle.windows.specs.Windows.{window};
-ghost use Rattle.synthesis_steps.specs.Places.{zero32};
-ghost use Rattle.synthesis.specs.Synthesis.{placesOf, samplesOf, memoryOf, channelOf, held, silent, cleared, number, index, accepted, frames, lent, outcome};
-
-mod areas; // areas.rt: the work areas
+ghost use lib.ListN.{replicate};
+ghost use Rattle.laws.specs.Numbers.{zero32};
+ghost use Rattle.synthesis.specs.Synthesis.{channelOf, held, silent, cleared, number, index, accepted, frames, lent, outcome};
+use config::Verdict;
 
 // What a stream keeps between frames: the last places of the frame before, and zeros at the places that its configuration has no use for.
+#[repr(C)]
 pub struct Channel {
     pub config: u8,
     pub memory: [f32; 300],
 }
 
+#[repr(C)]
 pub struct Cleared {
     pub number: u8,
     pub channel: Channel,
 }
 
+#[repr(C)]
 pub struct Framed {
     pub number: u8,
     pub index: usize,
     pub channel: Channel,
-}
-
-// A refusal's number and index, 0 and 0 for acceptance.
-struct Verdict {
-    number: u8,
-    index: usize,
 }
 
 impl Channel {
@@ -72,116 +64,6 @@ pub fn clear(config: u8) -> Cleared
             number: 1,
             channel: silent(255),
         }
-    }
-}
-
-// One frame of the configuration, with the window and a work area at hand.
-fn run_with(c: u8, w: &[u32], t: &mut [f32], lines: &[f32], memory: &mut [f32], samples: &mut [f32])
-    requires { ⌜ T (valid c) × (now w ≡ window c) × (length (now t) ≡ 2 * nf c) × (length (now lines) ≡ ne c) × (length (now memory) ≡ nf c - z c) × (length (now samples) ≡ nf c) ⌝ }
-    ensures places { λ _. ⌜ now (t .exit) ≡ placesOf c (now (lines .entry)) ⌝ }
-    ensures memory { λ _. ⌜ now (memory .exit) ≡ memoryOf c (now (lines .entry)) ⌝ }
-    ensures samples { λ _. ⌜ now (samples .exit) ≡ samplesOf c (now (memory .entry)) (now (lines .entry)) ⌝ }
-{
-    let g = twiddles::gain(samples.len());
-    synthesis_steps::run(
-        lines,
-        w,
-        g,
-        config::z(c),
-        t,
-        memory,
-        samples,
-        config::half(c),
-    );
-}
-
-// Inner. A frame of lines and its past to samples and the next past. The window is made once, here.
-pub fn samples_of(c: u8, lines: &[f32], memory: &mut [f32], samples: &mut [f32])
-    requires { ⌜ T (valid c) × (length (now lines) ≡ ne c) × (length (now memory) ≡ nf c - z c) × (length (now samples) ≡ nf c) ⌝ }
-    ensures memory { λ _. ⌜ now (memory .exit) ≡ memoryOf c (now (lines .entry)) ⌝ }
-    ensures samples { λ _. ⌜ now (samples .exit) ≡ samplesOf c (now (memory .entry)) (now (lines .entry)) ⌝ }
-{
-    match c {
-        0 => run_with(
-            c,
-            &windows::w_n60_7p5ms(),
-            &mut areas::t_hat_60(),
-            lines,
-            memory,
-            samples,
-        ),
-        1 => run_with(
-            c,
-            &windows::w_n120_7p5ms(),
-            &mut areas::t_hat_120(),
-            lines,
-            memory,
-            samples,
-        ),
-        2 => run_with(
-            c,
-            &windows::w_n180_7p5ms(),
-            &mut areas::t_hat_180(),
-            lines,
-            memory,
-            samples,
-        ),
-        3 => run_with(
-            c,
-            &windows::w_n240_7p5ms(),
-            &mut areas::t_hat_240(),
-            lines,
-            memory,
-            samples,
-        ),
-        4 => run_with(
-            c,
-            &windows::w_n360_7p5ms(),
-            &mut areas::t_hat_360(),
-            lines,
-            memory,
-            samples,
-        ),
-        5 => run_with(
-            c,
-            &windows::w_n80_10ms(),
-            &mut areas::t_hat_80(),
-            lines,
-            memory,
-            samples,
-        ),
-        6 => run_with(
-            c,
-            &windows::w_n160_10ms(),
-            &mut areas::t_hat_160(),
-            lines,
-            memory,
-            samples,
-        ),
-        7 => run_with(
-            c,
-            &windows::w_n240_10ms(),
-            &mut areas::t_hat_240(),
-            lines,
-            memory,
-            samples,
-        ),
-        8 => run_with(
-            c,
-            &windows::w_n320_10ms(),
-            &mut areas::t_hat_320(),
-            lines,
-            memory,
-            samples,
-        ),
-        _ => run_with(
-            c,
-            &windows::w_n480_10ms(),
-            &mut areas::t_hat_480(),
-            lines,
-            memory,
-            samples,
-        ),
     }
 }
 
@@ -236,7 +118,7 @@ impl Channel {
         let config = self.config;
         let mut memory = self.memory();
         let keep = samples.len() - config::z(config);
-        samples_of(config, lines, &mut memory[..keep], samples);
+        synthesis_samples::samples_of(config, lines, &mut memory[..keep], samples);
         synthesis_steps::zeros(&mut memory[keep..]);
         Framed {
             number: 0,

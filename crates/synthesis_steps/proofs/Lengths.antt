@@ -1,4 +1,4 @@
--- How long the places, the samples and the memory of a frame are; and of which places the last samples are. Assumes nothing.
+-- How long the samples and the memory of a frame are; and of which places the last samples are. Assumes nothing.
 use mathlib.Core.Path.{_≡_, sym, _∙_}
 use mathlib.Core.List.{List, zipWith}
 use Prim.Native.Nat.{ℕ, _+_, _-_, _*_, _≤_}
@@ -6,18 +6,8 @@ use native.Mathlib.Omega.{arith}
 use lib.ListN.{length, take, drop, length-append, length-drop}
 use lib.Seq.{length-take-le, drop-at}
 use lib.Ieee.{Float, binary32, add}
-use Rattle.dct_iv.specs.DctIv.{dctIv}
-use Rattle.dct_iv.proofs.Placed.{length-dctIv}
-use Rattle.synthesis_steps.specs.Places.{padded, unfolded, scaled, places, output, remains}
+use Rattle.synthesis_steps.specs.Places.{output, remains}
 use Rattle.synthesis_steps.proofs.Lists.{length-zipWith}
-use Rattle.synthesis_steps.proofs.Places.{length-padded, length-scaled, length-windowed}
-use Rattle.synthesis_steps.proofs.Mirrors.{length-unfolded}
-
-pub length-places : (h : ℕ) (g : Float) (w : List ℕ) (x : List Float) → length x ≤ 2 * h → length w ≡ 4 * h → length (places h g w x) ≡ 4 * h
-unfolding places
-length-places h g w x b e =
-    let l = length-scaled g (unfolded h (dctIv (padded (2 * h) x))) ∙ length-unfolded h (dctIv (padded (2 * h) x)) (length-dctIv (padded (2 * h) x) ∙ length-padded (2 * h) x b) in
-    length-windowed w (scaled g (unfolded h (dctIv (padded (2 * h) x)))) (e ∙ sym l) ∙ l
 
 module _ (n z : ℕ) (t : List Float) (b : z ≤ n) (e : length t ≡ 2 * n) where
   pub length-remains : length (remains n z t) ≡ n - z

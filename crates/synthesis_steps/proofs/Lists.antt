@@ -2,18 +2,19 @@
 use mathlib.Core.Path.{_≡_, refl, sym, ap, _∙_}
 use mathlib.Core.Bool.{Bool, true, false}
 use mathlib.Core.Logic.{⊎-elim, inl, inr, _⊎_}
-use mathlib.Core.List.{List, [], _∷_, _++_, append-nil, map, reverse, reverse-cons, zipWith}
+use mathlib.Core.List.{List, [], _∷_, _++_, map, reverse, reverse-cons, zipWith}
 use Prim.Native.Nat.{ℕ, zero, suc, _+_, _-_, _≤_, _<_}
 use native.Mathlib.Nat.{not-suc-le-zero, le-of-suc-le-suc}
 use native.Mathlib.Omega.{arith}
 use lib.Dec.{ltb}
-use lib.ListN.{length, getD, take, drop, length-drop, drop-of-length-le, length-reverse, List·getD-append, List·getD-map}
-use lib.Seq.{getD-append-add, getD-drop, take-at, drop-at, take-all, ext-getD}
+use lib.ListN.{length, getD, drop, length-reverse, List·getD-append, List·getD-map}
+use lib.Seq.{getD-append-add, getD-drop, take-at, drop-at}
 use lib.Ieee.{Float, nan, neg}
 use borrow.Rule.Slice.PartMut.{midOf, putMid}
 use borrow.Author.Tests.{ltb-true, ltb-false}
 use Rattle.laws.specs.Lists.{tab}
-use Rattle.laws.proofs.Lists.{length-tab, getD-tab, Filled, filled-all}
+use Rattle.laws.proofs.Lists.{length-tab, is-tab, Filled, filled-all}
+use Rattle.laws.proofs.Parts.{mid-tail, put-tail}
 use Rattle.laws.proofs.Sign.{neg-nan}
 
 -- before a place, or not
@@ -68,10 +69,6 @@ length-zipWith f (x ∷ xs) (y ∷ ys) e = ap suc (length-zipWith f xs ys (omega
 pub getD-negs : (l : List Float) (k : ℕ) → getD (map neg l) k nan ≡ neg (getD l k nan)
 getD-negs l k = ap (λ (d : Float). getD (map neg l) k d) (sym neg-nan) ∙ List·getD-map neg l k nan
 
--- a list whose places are f's is the tab of f
-pub is-tab : {A : Type 0} (d : A) (l : List A) (n : ℕ) (f : ℕ → A) → length l ≡ n → ((k : ℕ) → k < n → getD l k d ≡ f k) → l ≡ tab n f
-is-tab d l n f e p = ext-getD d l (tab n f) (e ∙ sym (length-tab n f)) (λ k h. p k (omega arith) ∙ sym (getD-tab n f d k (omega arith)))
-
 -- a loop over every place has made the list whose places are f's
 pub filled-is : {A : Type 0} {f : ℕ → A} {l : List A} {i : ℕ} {out : List A} (d : A) (r : List A) → Filled f l i out → i ≡ length l → length r ≡ length l → ((k : ℕ) → k < length l → getD r k d ≡ f k) → out ≡ r
 filled-is {A} {f} {l} {i} {out} d r h e s p = filled-all h e ∙ sym (is-tab d r (length l) f s p)
@@ -81,16 +78,6 @@ pub filled-later : {A : Type 0} {f : ℕ → A} {l : List A} {i : ℕ} {out : Li
 filled-later {A} {f} {l} {i} {out} d h k b =
     let e : i + (k - length (tab i f)) ≡ k = omega (arith, length-tab i f) in
     ap (λ (m : List A). getD m k d) (h .holds) ∙ getD-second (tab i f) (drop i l) k d (omega (arith, length-tab i f)) ∙ getD-drop i l _ d ∙ ap (λ (j : ℕ). getD l j d) e
-
--- what is lent from place a on, and the whole with q in its place
-module _ {A : Type 0} (a : ℕ) (l : List A) where
-  pub mid-tail : midOf a (length l - a) l ≡ drop a l
-  mid-tail = take-all (length l - a) (drop a l) (omega (arith, length-drop a l))
-
-  pub put-tail : (q : List A) → putMid a (length l - a) l q ≡ take a l ++ q
-  put-tail q =
-      ap (λ (r : List A). take a l ++ (q ++ r)) (drop-of-length-le (drop a l) {i = length l - a} (omega (arith, length-drop a l)))
-      ∙ ap (λ (r : List A). take a l ++ r) (append-nil q)
 
 -- the first n places came back as x; the others are then lent as they were, and come back as y
 module _ {A : Type 0} (n : ℕ) (l : List A) {p x : List A} (i : p ≡ x) (e : length x ≡ n) where

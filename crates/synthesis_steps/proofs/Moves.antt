@@ -9,7 +9,7 @@ use lib.Seq.{length-take-le, take-all, take-at, drop-at, take-add, drop-drop}
 use lib.Ieee.{Float, neg}
 use borrow.Rule.Slice.PartMut.{midOf, putMid}
 use Rattle.synthesis_steps.specs.Places.{mirrored, unfolded}
-use Rattle.synthesis_steps.proofs.Lists.{mid-tail, put-tail}
+use Rattle.laws.proofs.Parts.{mid-tail, put-tail}
 use Rattle.synthesis_steps.proofs.Mirrors.{length-mirrored}
 
 module _ {A : Type 0} (h : ℕ) (l : List A) where

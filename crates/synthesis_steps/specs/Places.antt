@@ -4,11 +4,7 @@ use mathlib.Core.Path.{_≡_}
 use mathlib.Core.List.{List, _++_, map, reverse, zipWith}
 use lib.ListN.{length, getD, take, drop, replicate}
 use lib.Ieee.{Float, nan, binary32, neg, add, mul, ofBits}
-use Rattle.dct_iv.specs.DctIv.{dctIv}
-
--- +0.0
-abbrev pub zero32 : Float
-zero32 = ofBits binary32 0
+use Rattle.laws.specs.Numbers.{zero32}
 
 -- run: the lines, and zeros after them to n places
 unfoldable pub padded : ℕ → List Float → List Float
@@ -37,10 +33,6 @@ output n z m t = zipWith (add binary32) m (take (n - z) (drop z t)) ++ take z (d
 -- overlap_add: the new memory, places n + z to 2 * n - 1
 unfoldable pub remains : ℕ → ℕ → List Float → List Float
 remains n z t = drop (n + z) t
-
--- run: the 2 nf places of a frame of lines, whose DCT is unfolded, scaled and windowed
-unfoldable pub places : ℕ → Float → List ℕ → List Float → List Float
-places h g w x = windowed w (scaled g (unfolded h (dctIv (padded (2 * h) x))))
 
 -- document 01, module 6, last sentence: bit for bit, before the window
 pub record Mirrors (h : ℕ) (t : List Float) : Type 0 where

@@ -1,15 +1,13 @@
-// The steps of a synthesis frame, one loop each. h is nf / 2 throughout.
+// The steps of a synthesis frame, but for the DCT, one loop each. They know no configuration; h is nf / 2 throughout.
 // Ported from src/decoder/modified_dct.rs of lc3-codec 0.2.0, and changed: counted loops over lent slices, and parts of a slice lent one after the other.
 ghost use mathlib.Core.Path.{_≡_};
 ghost use mathlib.Core.List.{_++_, map, reverse, zipWith};
 ghost use Prim.Native.Nat.{_+_, _-_, _*_, _≤_, _<_};
 ghost use lib.ListN.{length, take, drop, replicate};
 ghost use lib.Ieee.{binary32, neg, add};
-ghost use Rattle.synthesis_steps.specs.Places.{zero32, padded, mirrored, unfolded, scaled, windowed, output, remains, places};
-ghost use Rattle.dct_iv.specs.DctIv.{dctIv};
+ghost use Rattle.laws.specs.Numbers.{zero32};
+ghost use Rattle.synthesis_steps.specs.Places.{padded, mirrored, unfolded, scaled, windowed, output, remains};
 ghost use Rattle.windows.specs.Windows.{Numbers};
-ghost use Rattle.config.specs.Config.{among, dctLengths};
-ghost use lib.Dec.{T};
 
 // copy_from_slice: all of `to` from `from`.
 fn copy(from: &[f32], to: &mut [f32])
@@ -71,8 +69,8 @@ fn move_left(t: &mut [f32], h: usize)
     }
 }
 
-// Every place times the gain.
-fn gain(t: &mut [f32], g: f32)
+// Inner. Every place times the gain.
+pub fn gain(t: &mut [f32], g: f32)
     ensures { λ _. ⌜ now (t .exit) ≡ scaled g (now (t .entry)) ⌝ }
 {
     let mut i = 0;
@@ -82,8 +80,8 @@ fn gain(t: &mut [f32], g: f32)
     }
 }
 
-// Every place times the window, which is read backwards.
-fn window(t: &mut [f32], w: &[u32])
+// Inner. Every place times the window, which is read backwards.
+pub fn window(t: &mut [f32], w: &[u32])
     requires { ⌜ (length (now w) ≡ length (now t)) × Numbers (now w) ⌝ }
     ensures { λ _. ⌜ now (t .exit) ≡ windowed (now (w .entry)) (now (t .entry)) ⌝ }
 {
@@ -107,8 +105,8 @@ fn sum(a: &[f32], b: &[f32], to: &mut [f32])
     }
 }
 
-// The lines, and zeros after them.
-fn pad(lines: &[f32], buf: &mut [f32])
+// Inner. The lines, and zeros after them.
+pub fn pad(lines: &[f32], buf: &mut [f32])
     requires { ⌜ length (now lines) ≤ length (now buf) ⌝ }
     ensures { λ _. ⌜ now (buf .exit) ≡ padded (length (now (buf .entry))) (now (lines .entry)) ⌝ }
 {
@@ -145,8 +143,8 @@ fn half_nf_scratch() -> [f32; 240]
     [0.0f32; 240]
 }
 
-// The values unfolded to twice as many: mirrored, the first half moved aside, the rest moved to the left, what was aside negated behind it.
-fn unfold(buf: &[f32], t: &mut [f32], h: usize)
+// Inner. The values unfolded to twice as many: mirrored, the first half moved aside, the rest moved to the left, what was aside negated behind it.
+pub fn unfold(buf: &[f32], t: &mut [f32], h: usize)
     requires { ⌜ (h ≤ 240) × (length (now buf) ≡ 2 * h) × (length (now t) ≡ 4 * h) ⌝ }
     ensures { λ _. ⌜ now (t .exit) ≡ unfolded h (now (buf .entry)) ⌝ }
 {
@@ -158,8 +156,8 @@ fn unfold(buf: &[f32], t: &mut [f32], h: usize)
     negate(&aside[..h], &mut t[last..]);
 }
 
-// The samples: memory + places z to nf - 1, then places nf to nf + z - 1 as they are. The memory becomes places nf + z to 2 nf - 1.
-fn overlap_add(t: &[f32], memory: &mut [f32], samples: &mut [f32], z: usize)
+// Inner. The samples: memory + places z to nf - 1, then places nf to nf + z - 1 as they are. The memory becomes places nf + z to 2 nf - 1.
+pub fn overlap_add(t: &[f32], memory: &mut [f32], samples: &mut [f32], z: usize)
     requires { ⌜ (z ≤ length (now samples)) × (length (now t) ≡ 2 * length (now samples)) × (length (now memory) ≡ length (now samples) - z) ⌝ }
     ensures samples { λ _. ⌜ now (samples .exit) ≡ output (length (now (samples .entry))) z (now (memory .entry)) (now (t .entry)) ⌝ }
     ensures memory { λ _. ⌜ now (memory .exit) ≡ remains (length (now (samples .entry))) z (now (t .entry)) ⌝ }
@@ -170,37 +168,4 @@ fn overlap_add(t: &[f32], memory: &mut [f32], samples: &mut [f32], z: usize)
     sum(memory, &t[z..nf], &mut samples[..kept]);
     copy(&t[end..], memory);
     copy(&t[nf..end], &mut samples[kept..]);
-}
-
-// The DCT of the values, unfolded, times the gain. buf is left with the DCT.
-fn apply_mdct_inverse(buf: &mut [f32], t: &mut [f32], g: f32, h: usize)
-    requires { ⌜ (h ≤ 240) × (length (now buf) ≡ 2 * h) × (length (now t) ≡ 4 * h) × T (among dctLengths (2 * h)) ⌝ }
-    ensures values { λ _. ⌜ now (buf .exit) ≡ dctIv (now (buf .entry)) ⌝ }
-    ensures places { λ _. ⌜ now (t .exit) ≡ scaled g (unfolded h (dctIv (now (buf .entry)))) ⌝ }
-{
-    dct_iv::run(buf);
-    unfold(buf, t, h);
-    gain(t, g);
-}
-
-// Inner. One frame: lines and memory to samples and memory. The memory is nf - z places, t a work area of 2 nf; the samples' slice is worked in, as in the Rust.
-pub fn run(
-    lines: &[f32],
-    w: &[u32],
-    g: f32,
-    z: usize,
-    t: &mut [f32],
-    memory: &mut [f32],
-    samples: &mut [f32],
-    h: usize,
-)
-    requires { ⌜ (h ≤ 240) × (z ≤ 2 * h) × (length (now lines) ≤ 2 * h) × (length (now w) ≡ 4 * h) × Numbers (now w) × (length (now t) ≡ 4 * h) × (length (now memory) ≡ 2 * h - z) × (length (now samples) ≡ 2 * h) × T (among dctLengths (2 * h)) ⌝ }
-    ensures places { λ _. ⌜ now (t .exit) ≡ places h g (now (w .entry)) (now (lines .entry)) ⌝ }
-    ensures memory { λ _. ⌜ now (memory .exit) ≡ remains (2 * h) z (places h g (now (w .entry)) (now (lines .entry))) ⌝ }
-    ensures samples { λ _. ⌜ now (samples .exit) ≡ output (2 * h) z (now (memory .entry)) (places h g (now (w .entry)) (now (lines .entry))) ⌝ }
-{
-    pad(lines, samples);
-    apply_mdct_inverse(samples, t, g, h);
-    window(t, w);
-    overlap_add(t, memory, samples, z);
 }

@@ -1,12 +1,12 @@
 -- `energy` meets its contract. The loop's invariant: the sum is that of the first i lines' shares. Assumes nothing.
-use mathlib.Core.Path.{refl, ap₂, _∙_}
+use mathlib.Core.Path.{refl, ap, _∙_}
 use Prim.Native.Nat.{_-_, _≤_}
 use native.Mathlib.Omega.{arith}
 use lib.ListN.{length, getD}
-use lib.Ieee.{Float, nan, binary32, add, mul, div, ofBits}
+use lib.Ieee.{Float, nan, binary32, add, mul, div}
 use borrow.Author.Needs.{needs}
-use Rattle.laws.proofs.Sign.{zero-bits}
-use Rattle.analysis_steps.specs.Energy.{zero32, share, energy}
+use Rattle.laws.specs.Numbers.{zero32}
+use Rattle.analysis_steps.specs.Energy.{share, energy}
 use Rattle.analysis_steps.proofs.Sums.{Summed, summed-more, summed-all, energy-one, one-bits, width-fits}
 use Rattle.analysis_steps.proofs.energy.Statement.{statement}
 use Rattle.analysis_steps.proofs.energy.Tie as tie
@@ -28,13 +28,12 @@ unfolding share
 returns c =
     let ls = c .before .before .before .args .lines .now in
     let x = getD ls 0 nan in
-    ap₂ (λ (o w : Float). add binary32 o (div binary32 (mul binary32 x x) w)) zero-bits one-bits ∙ energy-one ls (c .before .before .if1 .taken)
+    ap (λ (w : Float). add binary32 zero32 (div binary32 (mul binary32 x x) w)) one-bits ∙ energy-one ls (c .before .before .if1 .taken)
 
 int-to-float-width : tie.Need-int-to-float-width Inv-loop μ-loop
 int-to-float-width c = width-fits _ (c .before .before .pre)
 
 loop-holds : tie.Need-loop-holds Inv-loop μ-loop
-unfolding ofBits
 loop-holds c = (omega arith, refl)
 
 mul-sum : tie.Need-mul-sum Inv-loop μ-loop

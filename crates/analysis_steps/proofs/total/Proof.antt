@@ -2,10 +2,10 @@
 use mathlib.Core.Path.{refl}
 use Prim.Native.Nat.{_-_, _≤_}
 use native.Mathlib.Omega.{arith}
-use lib.Ieee.{ofBits}
 use lib.ListN.{length}
 use borrow.Author.Needs.{needs}
-use Rattle.analysis_steps.specs.Energy.{zero32, total}
+use Rattle.laws.specs.Numbers.{zero32}
+use Rattle.analysis_steps.specs.Energy.{total}
 use Rattle.analysis_steps.proofs.Sums.{Summed, summed-more, summed-all}
 use Rattle.analysis_steps.proofs.total.Statement.{statement}
 use Rattle.analysis_steps.proofs.total.Tie as tie
@@ -17,7 +17,6 @@ abbrev μ-loop : tie.MeasureT-loop
 μ-loop es sum₀ i₀ sum i = length es - i
 
 loop-holds : tie.Need-loop-holds Inv-loop μ-loop
-unfolding ofBits
 loop-holds c = (omega arith, refl)
 
 mul-sum : tie.Need-mul-sum Inv-loop μ-loop

@@ -9,7 +9,8 @@ use Rattle.laws.proofs.Lists.{Filled, filled-none, filled-more}
 use mathlib.Core.List.{List, _++_}
 use lib.Seq.{getD-take, getD-drop, length-take-le}
 use Rattle.laws.specs.Lists.{tab}
-use Rattle.synthesis_steps.proofs.Lists.{filled-later, is-tab}
+use Rattle.synthesis_steps.proofs.Lists.{filled-later}
+use Rattle.laws.proofs.Lists.{is-tab}
 use Rattle.synthesis_steps.proofs.move_left.Statement.{statement}
 use Rattle.synthesis_steps.proofs.move_left.Tie as tie
 

@@ -7,7 +7,8 @@ use lib.Seq.{length-take-le}
 use lib.Ieee.{binary32, add}
 use borrow.Author.Needs.{needs}
 use Rattle.synthesis_steps.specs.Places.{output, remains}
-use Rattle.synthesis_steps.proofs.Lists.{length-zipWith, mid-tail, two-parts}
+use Rattle.synthesis_steps.proofs.Lists.{length-zipWith, two-parts}
+use Rattle.laws.proofs.Parts.{mid-tail}
 use Rattle.synthesis_steps.proofs.overlap_add.Statement.{statement}
 use Rattle.synthesis_steps.proofs.overlap_add.Tie as tie
 

@@ -4,7 +4,8 @@ use Prim.Native.Nat.{ℕ}
 use lib.ListN.{length, replicate, length-drop}
 use lib.Seq.{length-take-le}
 use borrow.Author.Needs.{needs}
-use Rattle.synthesis_steps.specs.Places.{zero32, padded}
+use Rattle.laws.specs.Numbers.{zero32}
+use Rattle.synthesis_steps.specs.Places.{padded}
 use Rattle.synthesis_steps.proofs.Lists.{second-lent, two-parts}
 use Rattle.synthesis_steps.proofs.pad.Statement.{statement}
 use Rattle.synthesis_steps.proofs.pad.Tie as tie

@@ -7,7 +7,7 @@ use lib.Ieee.{nan}
 use borrow.Author.Needs.{needs}
 use Rattle.laws.proofs.Lists.{Filled, filled-none, filled-more}
 use Rattle.synthesis_steps.proofs.Lists.{filled-is}
-use Rattle.synthesis_steps.specs.Places.{zero32}
+use Rattle.laws.specs.Numbers.{zero32}
 use Rattle.synthesis_steps.proofs.zeros.Statement.{statement}
 use Rattle.synthesis_steps.proofs.zeros.Tie as tie
 

@@ -10,7 +10,8 @@ use borrow.Author.Needs.{needs}
 use Rattle.laws.proofs.Lists.{length-tab, take-tab}
 use Rattle.config.specs.Config.{nf, z}
 use Rattle.config.proofs.Sound.{sound}
-use Rattle.analysis.specs.Analysis.{held, linesOf}
+use Rattle.analysis_lines.specs.Lines.{linesOf}
+use Rattle.analysis.specs.Analysis.{held}
 use Rattle.analysis.proofs.Made.{made-kept}
 use Rattle.analysis.proofs.Frames.{made}
 use Rattle.analysis.proofs.Channel.accepted.Statement.{statement}

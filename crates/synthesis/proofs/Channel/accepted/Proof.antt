@@ -10,8 +10,9 @@ use borrow.Author.Needs.{needs}
 use Rattle.laws.specs.Lists.{tab}
 use Rattle.laws.proofs.Lists.{take-tab}
 use Rattle.config.specs.Config.{nf, z}
-use Rattle.synthesis_steps.specs.Places.{zero32}
-use Rattle.synthesis.specs.Synthesis.{lent, held, samplesOf}
+use Rattle.laws.specs.Numbers.{zero32}
+use Rattle.synthesis_samples.specs.Samples.{samplesOf}
+use Rattle.synthesis.specs.Synthesis.{lent, held}
 use Rattle.synthesis.proofs.Frames.{passed, made}
 use Rattle.synthesis.proofs.Made.{keeps, made-kept}
 use Rattle.synthesis.proofs.Channel.accepted.Statement.{statement}
