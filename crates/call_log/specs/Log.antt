@@ -3,10 +3,11 @@ use Prim.Native.Nat.{ℕ, zero, suc, _+_, _-_, _*_, _≤_}
 use mathlib.Core.Bool.{Bool, true, false, cond, _&&_}
 use mathlib.Core.Path.{_≡_}
 use mathlib.Core.List.{List, [], _∷_}
-use lib.IntN.{ℤ, pos, negsuc}
+use lib.IntN.{ℤ, pos}
 use lib.Dec.{ltb, leb, eqb}
 use lib.ListN.{length, getD, take, drop}
 use lib.Ieee.{Float, binary32, ofBits, ofInt, add}
+use Rattle.frame_file.specs.File.{signed}
 use Rattle.config.specs.Refusals.{accepted, shortFile, badMark, badVersion}
 use Rattle.call_log.specs.declared.Header.{Header}
 use Rattle.call_log.specs.declared.Header.the-variants.{Good, Short, Unmarked, Foreign}
@@ -23,10 +24,6 @@ short b = getD b 0 0 + 256 * getD b 1 0
 -- 32 bits
 abbrev pub word : List ℕ → ℕ
 word b = short b + 65536 * short (drop 2 b)
-
--- 16 bits as a sample
-unfoldable pub signed : ℕ → ℤ
-signed n = cond (ltb n 0x8000) (pos n) (negsuc (0xffff - n))
 
 -- ---- values: a count of 16 bits, and that many
 -- n places at the front of a room. The second part follows from the first; with both, a caller can lend the part

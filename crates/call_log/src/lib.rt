@@ -5,7 +5,7 @@ ghost use Prim.Native.Nat.{_+_, _*_, _≤_, _<_, min};
 ghost use lib.ListN.{length, getD, drop, replicate};
 ghost use lib.Ieee.{ofBits, binary32};
 ghost use Rattle.laws.specs.Lists.{tab};
-ghost use Rattle.call_log.specs.Log.{short, word, signed, Places, sampleOf, floatOf, before, marked, headerOf, headerNumber, fieldOf, within, listed, fieldTaken, callTaken};
+ghost use Rattle.call_log.specs.Log.{short, word, Places, sampleOf, floatOf, before, marked, headerOf, headerNumber, fieldOf, within, listed, fieldTaken, callTaken};
 
 mod layout; // layout.rt: the fields of each kind of call
 
@@ -69,17 +69,6 @@ fn float(bits: u32) -> f32
     }
 }
 
-// The sample of 16 bits.
-fn sample(n: u16) -> i16
-    ensures { λ r. ⌜ r ≡ signed n ⌝ }
-{
-    if n < 0x8000 {
-        n as i16
-    } else {
-        -1 - ((0xffff - n) as i16)
-    }
-}
-
 // A count at the front, or 1,024 where it is more.
 pub fn count(b: &[u8]) -> usize
     ensures { λ r. ⌜ r ≡ min (short (now (b .entry))) 1024 ⌝ }
@@ -113,7 +102,7 @@ pub fn samples(b: &[u8], out: &mut [i16])
 {
     let mut i = 0;
     while i < out.len() {
-        out[i] = sample(short(rest(b, 2 + 2 * i)));
+        out[i] = frame_file::sample(short(rest(b, 2 + 2 * i)));
         i += 1;
     }
 }

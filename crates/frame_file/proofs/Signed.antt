@@ -11,11 +11,8 @@ use mir.Syntax.{w16}
 use mir.Val.{toZ, ofZ, SFits}
 use mir.ValLaws.{toZ-pos, toZ-ofZ, toZ-fits}
 use borrow.Author.Tests.{lt-ltb, le-ltb, ltb-true, ltb-false}
+use Rattle.laws.proofs.Bools.{outcomes}
 use Rattle.frame_file.specs.File.{signed}
-
-outcomes : (b : Bool) → (b ≡ true) ⊎ (b ≡ false)
-outcomes true = inl refl
-outcomes false = inr refl
 
 minus-one : (k : ℕ) → negsuc 0 -ℤ pos k ≡ negsuc k
 minus-one zero = refl

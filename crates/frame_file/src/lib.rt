@@ -113,8 +113,8 @@ pub fn record_number(found: Record) -> u8
     }
 }
 
-// The sample that 16 bits stand for.
-fn sample(n: u16) -> i16
+// Entry. The sample that 16 bits stand for.
+pub fn sample(n: u16) -> i16
     ensures { λ r. ⌜ r ≡ signed n ⌝ }
 {
     if n < 0x8000 {

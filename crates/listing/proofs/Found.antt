@@ -8,6 +8,7 @@ use native.Mathlib.Omega.{arith}
 use lib.Dec.{T, ltb, eqb}
 use lib.ListN.{length, List·getD-eq-default}
 use borrow.Author.Tests.{ltb-true, ltb-false}
+use Rattle.laws.proofs.Bools.{outcomes}
 use Rattle.config.specs.Config.{valid, configs, row, nf, none}
 use Rattle.config.specs.declared.Lc3Config.{Lc3Config}
 use Rattle.config.specs.Tables.{rows}
@@ -15,10 +16,6 @@ use Rattle.config.proofs.Sound.{sound, lt-valid}
 use Rattle.frame_file.specs.declared.Record.{Record}
 use Rattle.frame_file.specs.declared.Record.the-variants.{Frame, End, Cut, Astray}
 use Rattle.frame_file.specs.File.{frameBytes, recordOf}
-
-pub outcomes : (b : Bool) → (b ≡ true) ⊎ (b ≡ false)
-outcomes true = inl refl
-outcomes false = inr refl
 
 -- how many bytes a record uses
 abbrev pub usedBy : Record → ℕ

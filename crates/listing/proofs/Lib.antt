@@ -1,4 +1,3 @@
-pub mod Decimal
 pub mod Found
 pub mod Frames
 pub mod Lines

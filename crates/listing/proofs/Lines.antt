@@ -7,8 +7,8 @@ use native.Mathlib.Omega.{arith}
 use lib.ListN.{length, take, drop, length-append}
 use lib.Seq.{paste, take-paste, drop-paste, take-length, drop-drop}
 use Rattle.listing.specs.declared.line.Text.{Text}
-use Rattle.listing.specs.Text.{decimal}
-use Rattle.listing.proofs.Decimal.{length-decimal}
+use Rattle.plain_text.specs.Text.{decimal}
+use Rattle.plain_text.proofs.Decimal.{length-decimal}
 use Rattle.listing.specs.Steps.{blank, with, text, said}
 
 module _ (d : List ℕ) (at : ℕ) (a b : List ℕ) (h : at ≤ length d) where

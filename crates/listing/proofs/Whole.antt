@@ -28,7 +28,8 @@ use Rattle.listing.specs.declared.frame.Measured.{Measured}
 use Rattle.listing.specs.Text.{firstLine, refusedLine}
 use Rattle.listing.specs.Listing.{zeros, listened, lineOf, frameLines, lastLine, body, listed, listing}
 use Rattle.listing.specs.Steps.{text, said, start, told, opened, opening, counted, framed, found, step, written, held}
-use Rattle.listing.proofs.Found.{outcomes, usedBy, whole}
+use Rattle.laws.proofs.Bools.{outcomes}
+use Rattle.listing.proofs.Found.{usedBy, whole}
 use Rattle.listing.proofs.Lines.{said-text}
 
 -- ---- the configuration stays

@@ -1,28 +1,11 @@
 -- The lines of a listing as bytes (document 01, "Frame file and listing"). Every line ends with a newline. Definitions only.
-use Prim.Native.Nat.{ℕ, zero, suc, _+_, _/_, _%_}
-use mathlib.Core.Bool.{Bool, true, false, cond}
+use Prim.Native.Nat.{ℕ}
+use mathlib.Core.Bool.{Bool, cond}
 use mathlib.Core.List.{List, [], _∷_, _++_}
-use lib.Dec.{ltb}
+use Rattle.plain_text.specs.Text.{space, newline, decimal}
 use Rattle.frame_file.specs.File.{lmf}
 use Rattle.loudest.specs.declared.Loudest.{Loudest}
 use Rattle.loudest.specs.declared.Loudest.the-variants.{Quiet, Loud}
-
-abbrev pub space : List ℕ
-space = 0x20 ∷ []
-
-abbrev pub newline : List ℕ
-newline = 0x0a ∷ []
-
--- decimal, no leading zeros: the last digit after those of the tenth part. A number has fewer digits than one more than itself.
-unfoldable pub spelled : ℕ → ℕ → List ℕ
-spelled zero n = []
-spelled (suc most) n = elim (ltb n 10) [
-  | true ↦ (48 + n) ∷ []
-  | false ↦ spelled most (n / 10) ++ ((48 + n % 10) ∷ [])
-]
-
-unfoldable pub decimal : ℕ → List ℕ
-decimal n = spelled (suc n) n
 
 -- "`LMF`, version and configuration"
 unfoldable pub firstLine : ℕ → ℕ → List ℕ

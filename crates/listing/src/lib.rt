@@ -7,7 +7,8 @@ ghost use lib.Dec.{T};
 ghost use lib.ListN.{length};
 ghost use Rattle.config.specs.Config.{valid, nf};
 ghost use Rattle.frame_file.specs.File.{samples, frameBytes};
-ghost use Rattle.listing.specs.Text.{newline, decimal, firstLine, digit, frameLine, endLine, refusedLine};
+ghost use Rattle.plain_text.specs.Text.{newline, decimal};
+ghost use Rattle.listing.specs.Text.{firstLine, digit, frameLine, endLine, refusedLine};
 ghost use Rattle.listing.specs.Listing.{listened};
 ghost use Rattle.listing.specs.Steps.{text, start, opening, counted, framed, step};
 

@@ -4,7 +4,7 @@ ghost use mathlib.Core.List.{_++_};
 ghost use Prim.Native.Nat.{_+_, _≤_, min};
 ghost use lib.ListN.{length};
 ghost use lib.Seq.{paste};
-ghost use Rattle.listing.specs.Text.{decimal};
+ghost use Rattle.plain_text.specs.Text.{decimal};
 ghost use Rattle.listing.specs.Steps.{blank, with};
 
 pub struct Text {

@@ -1,10 +1,11 @@
 // Replays a log of calls: reads it on standard input, makes each call, and prints what the library answers.
-// What a call's bytes mean is proved in call_log; here nothing is stated but that it is safe and ends.
+// What a call's bytes mean is proved in call_log, and the text in call_text; here nothing is stated but that it is safe and ends.
 ghost use Prim.Native.Nat.{_≤_};
 ghost use mathlib.Core.Path.{_≡_};
 ghost use lib.ListN.{length};
 ghost use Rattle.replay.specs.Held.{Held};
 use call_log::Taken;
+use call_text::Extra;
 use libc::STDERR_FILENO;
 use libc::STDIN_FILENO;
 use libc::STDOUT_FILENO;
@@ -13,196 +14,50 @@ use loudest::Loudest;
 // The longest call: an FFT with 1,024 values in each slice.
 const LONGEST: usize = 8204;
 
-// How far the output is filled; broken where a write failed.
-struct Text {
-    at: usize,
-    is_broken: bool,
-}
+// More than the longest answer, to such an FFT, takes.
+const ANSWER: usize = 24576;
 
 // The bytes of the input that are not used yet; over where the log has no more.
 struct Input {
     from: usize,
     to: usize,
     is_over: bool,
-    has_failed: bool,
 }
 
-// The channels, the calls made, and the text.
+// What a call answers: the numbers of its first line, and its output areas, m places of x and n of y.
+struct Answer {
+    number: u8,
+    index: usize,
+    extra: Extra,
+    x: [f32; 1024],
+    m: usize,
+    y: [f32; 1024],
+    n: usize,
+}
+
+// A channel after a call, and the answer.
+struct Analysed {
+    channel: analysis::Channel,
+    answer: Answer,
+}
+
+struct Played {
+    channel: synthesis::Channel,
+    answer: Answer,
+}
+
+// The channels, and the answer of the last call.
 struct Bench {
-    count: u64,
-    text: Text,
     analysis: analysis::Channel,
     synthesis: synthesis::Channel,
-    is_done: bool,
+    answer: Answer,
 }
 
-// A bench, and how many bytes the call before took.
+// A bench, how far the output is filled, and how many bytes the call before took: 0 after the last line.
 struct Step {
     bench: Bench,
+    at: usize,
     used: usize,
-}
-
-// ---- the text
-
-// An output with nothing in it.
-fn empty() -> Text {
-    Text {
-        at: 0,
-        is_broken: false,
-    }
-}
-
-// An output that is written no more.
-fn broken() -> Text {
-    Text {
-        at: 0,
-        is_broken: true,
-    }
-}
-
-// Writes out what the output holds.
-fn flush(out: &[u8], t: Text) -> Text {
-    let at = t.at;
-    if out.len() < at {
-        return broken();
-    }
-    if t.is_broken {
-        return broken();
-    }
-    let is_written = io::write_all(STDOUT_FILENO, &out[..at]);
-    if !is_written {
-        io::write_all(STDERR_FILENO, b"replay: a write failed\n");
-    }
-    Text {
-        at: 0,
-        is_broken: !is_written,
-    }
-}
-
-// The output with room for a byte.
-fn roomy(out: &[u8], t: Text) -> Text {
-    if t.at < out.len() {
-        return t;
-    }
-    flush(out, t)
-}
-
-// A byte at the output's end.
-fn put(out: &mut [u8], t: Text, b: u8) -> Text {
-    let roomy = roomy(out, t);
-    let at = roomy.at;
-    if at < out.len() {
-        out[at] = b;
-        return Text {
-            at: at + 1,
-            is_broken: roomy.is_broken,
-        };
-    }
-    roomy
-}
-
-// Bytes, one after the other.
-fn put_all(out: &mut [u8], t: Text, s: &[u8]) -> Text {
-    let mut text = t;
-    let mut i = 0;
-    while i < s.len() {
-        text = put(out, text, s[i]);
-        i += 1;
-    }
-    text
-}
-
-// A number in decimal.
-fn put_decimal(out: &mut [u8], t: Text, n: u64) -> Text {
-    let mut digits = [0u8; 20];
-    let k = io::decimal(n, &mut digits);
-    put_all(out, t, &digits[..k])
-}
-
-// A number and a space.
-fn put_number(out: &mut [u8], t: Text, n: u64) -> Text {
-    let text = put_decimal(out, t, n);
-    put(out, text, b' ')
-}
-
-// A call's first line up to EXTRA.
-fn put_head(out: &mut [u8], t: Text, count: u64, kind: u64, number: u8, index: usize) -> Text {
-    let counted = put_number(out, t, count);
-    let kinded = put_number(out, counted, kind);
-    let numbered = put_number(out, kinded, number as u64);
-    put_number(out, numbered, index as u64)
-}
-
-// The first line of a call that has no EXTRA.
-fn put_line(out: &mut [u8], t: Text, count: u64, kind: u64, number: u8, index: usize) -> Text {
-    let head = put_head(out, t, count, kind, number, index);
-    put_all(out, head, b"-\n")
-}
-
-// Eight hexadecimal digits.
-fn put_bits(out: &mut [u8], t: Text, bits: u32) -> Text {
-    let mut digits = [0u8; 16];
-    let k = io::hex(bits as u64, 8, &mut digits);
-    put_all(out, t, &digits[..k])
-}
-
-// A space and a place of an area.
-fn put_float(out: &mut [u8], t: Text, x: f32) -> Text {
-    if x != x {
-        return put_all(out, t, b" nan");
-    }
-    let text = put(out, t, b' ');
-    put_bits(out, text, f32::to_bits(x))
-}
-
-// The size of a sample, without its sign.
-fn magnitude(x: i16) -> u16 {
-    if x < 0 { (-1 - x) as u16 + 1 } else { x as u16 }
-}
-
-// A space and a sample.
-fn put_sample(out: &mut [u8], t: Text, x: i16) -> Text {
-    let spaced = put(out, t, b' ');
-    if x < 0 {
-        let negative = put(out, spaced, b'-');
-        return put_decimal(out, negative, magnitude(x) as u64);
-    }
-    put_decimal(out, spaced, magnitude(x) as u64)
-}
-
-// The places of an area, and the line's end.
-fn put_floats(out: &mut [u8], t: Text, x: &[f32]) -> Text {
-    let mut text = t;
-    let mut i = 0;
-    while i < x.len() {
-        text = put_float(out, text, x[i]);
-        i += 1;
-    }
-    put(out, text, b'\n')
-}
-
-// The samples of a channel, and the line's end.
-fn put_samples(out: &mut [u8], t: Text, x: &[i16]) -> Text {
-    let mut text = t;
-    let mut i = 0;
-    while i < x.len() {
-        text = put_sample(out, text, x[i]);
-        i += 1;
-    }
-    put(out, text, b'\n')
-}
-
-// An area's line.
-fn put_area(out: &mut [u8], t: Text, name: &[u8], x: &[f32]) -> Text {
-    let text = put_all(out, t, name);
-    put_floats(out, text, x)
-}
-
-// A word, a number and the line's end.
-fn put_last(out: &mut [u8], t: Text, word: &[u8], n: u64) -> Text {
-    let worded = put_all(out, t, word);
-    let numbered = put_decimal(out, worded, n);
-    put(out, numbered, b'\n')
 }
 
 // ---- the calls: b is the whole call
@@ -226,14 +81,260 @@ fn floats_300() -> [f32; 300]
     [0.0; 300]
 }
 
-// The bytes after a count and its samples.
-fn after_samples(b: &[u8]) -> &[u8] {
-    call_log::rest(b, 2 + 2 * call_log::count(b))
+// The values after a count, as many as out has places, and the bytes after all of them.
+fn read_floats<'a>(b: &'a [u8], out: &mut [f32]) -> &'a [u8] {
+    call_log::floats(b, out);
+    call_log::rest(b, 2 + 4 * call_log::count(b))
 }
 
-// The bytes after a count and its values.
-fn after_floats(b: &[u8]) -> &[u8] {
-    call_log::rest(b, 2 + 4 * call_log::count(b))
+// The answer of a call that has no output area.
+fn plain(number: u8) -> Answer {
+    one_area(number, 0, call_log::area(), 0)
+}
+
+// The answer of a call that has one, m places of x.
+fn one_area(number: u8, index: usize, x: [f32; 1024], m: usize) -> Answer {
+    Answer {
+        number,
+        index,
+        extra: Extra::Nothing,
+        x,
+        m,
+        y: call_log::area(),
+        n: 0,
+    }
+}
+
+// The answer of an analysis frame.
+fn flagged(number: u8, flag: bool, x: [f32; 1024], m: usize, y: [f32; 1024], n: usize) -> Answer {
+    Answer {
+        number,
+        index: 0,
+        extra: Extra::Flag(flag),
+        x,
+        m,
+        y,
+        n,
+    }
+}
+
+// 1: clear of the analysis channel.
+fn clear_analysis(old: analysis::Channel, b: &[u8]) -> Analysed {
+    let cleared = analysis::clear(call_log::byte_at(b, 1));
+    let answer = plain(cleared.number);
+    if cleared.number == 0 {
+        let channel = cleared.channel;
+        return Analysed { channel, answer };
+    }
+    Analysed {
+        channel: old,
+        answer,
+    }
+}
+
+// 2: analysis frame: the samples, the call.
+fn analyse(channel: analysis::Channel, b: &[u8]) -> Analysed {
+    let input = call_log::rest(b, 1);
+    let mut room = samples_room();
+    let k = call_log::count_samples(input, &room);
+    analyse_on(channel, input, &mut room[..k])
+}
+
+fn analyse_on(channel: analysis::Channel, b: &[u8], input: &mut [i16]) -> Analysed {
+    call_log::samples(b, input);
+    let lengths = call_log::rest(b, 2 + 2 * call_log::count(b));
+    let mut x = call_log::area();
+    let mut y = call_log::area();
+    let m = call_log::count_floats(lengths, &x);
+    let n = call_log::count_floats(call_log::rest(lengths, 2), &y);
+    let framed = channel.frame(input, &mut x[..m], &mut y[..n]);
+    let next = framed.channel;
+    Analysed {
+        channel: next,
+        answer: flagged(framed.number, framed.flag, x, m, y, n),
+    }
+}
+
+// 3: clear of the synthesis channel.
+fn clear_synthesis(old: synthesis::Channel, b: &[u8]) -> Played {
+    let cleared = synthesis::clear(call_log::byte_at(b, 1));
+    let answer = plain(cleared.number);
+    if cleared.number == 0 {
+        let channel = cleared.channel;
+        return Played { channel, answer };
+    }
+    Played {
+        channel: old,
+        answer,
+    }
+}
+
+// 4: synthesis frame: the lines, the call.
+fn play(channel: synthesis::Channel, b: &[u8]) -> Played {
+    let input = call_log::rest(b, 1);
+    let mut room = call_log::area();
+    let k = call_log::count_floats(input, &room);
+    play_on(channel, input, &mut room[..k])
+}
+
+fn play_on(channel: synthesis::Channel, b: &[u8], lines: &mut [f32]) -> Played {
+    let length = read_floats(b, lines);
+    let mut x = call_log::area();
+    let m = call_log::count_floats(length, &x);
+    let framed = channel.frame(lines, &mut x[..m]);
+    let next = framed.channel;
+    Played {
+        channel: next,
+        answer: one_area(framed.number, framed.index, x, m),
+    }
+}
+
+// 5: FFT: the real parts, the imaginary parts, the call.
+fn fft(b: &[u8]) -> Answer {
+    let parts = call_log::rest(b, 4);
+    let mut re = call_log::area();
+    let k = call_log::count_floats(parts, &re);
+    fft_real(b, parts, &mut re[..k])
+}
+
+fn fft_real(b: &[u8], parts: &[u8], re: &mut [f32]) -> Answer {
+    let imag = read_floats(parts, re);
+    let mut im = call_log::area();
+    let k = call_log::count_floats(imag, &im);
+    fft_imag(b, imag, re, &mut im[..k])
+}
+
+fn fft_imag(b: &[u8], parts: &[u8], re: &[f32], im: &mut [f32]) -> Answer {
+    let lengths = read_floats(parts, im);
+    let mut x = call_log::area();
+    let mut y = call_log::area();
+    let m = call_log::count_floats(lengths, &x);
+    let n = call_log::count_floats(call_log::rest(lengths, 2), &y);
+    let size = call_log::short(call_log::rest(b, 1)) as usize;
+    let is_inverse = call_log::byte_at(b, 3) == 1;
+    let v = kissfft::fft(size, is_inverse, re, im, &mut x[..m], &mut y[..n]);
+    Answer {
+        number: v.number,
+        index: v.index,
+        extra: Extra::Nothing,
+        x,
+        m,
+        y,
+        n,
+    }
+}
+
+// 6: DCT.
+fn dct(b: &[u8]) -> Answer {
+    let mut x = call_log::area();
+    let m = call_log::count_floats(call_log::rest(b, 3), &x);
+    let v = dct_on(b, &mut x[..m]);
+    one_area(v.number, v.index, x, m)
+}
+
+fn dct_on(b: &[u8], values: &mut [f32]) -> config::Verdict {
+    call_log::floats(call_log::rest(b, 3), values);
+    dct_iv::dct_iv(call_log::short(call_log::rest(b, 1)) as usize, values)
+}
+
+// 7: loudest band: the energies, the call. The area is its energy.
+fn loudest(b: &[u8]) -> Answer {
+    let mut room = call_log::area();
+    let k = call_log::count_floats(call_log::rest(b, 1), &room);
+    loudest_on(b, &mut room[..k])
+}
+
+fn loudest_on(b: &[u8], energies: &mut [f32]) -> Answer {
+    call_log::floats(call_log::rest(b, 1), energies);
+    let heard = loudest::loudest_band(energies);
+    let found = heard.loudest;
+    let mut x = call_log::area();
+    let Loudest::Loud(band, energy) = found else {
+        return one_area(heard.number, heard.index, x, 0);
+    };
+    x[0] = energy;
+    Answer {
+        number: heard.number,
+        index: heard.index,
+        extra: Extra::Band(band),
+        x,
+        m: 1,
+        y: call_log::area(),
+        n: 0,
+    }
+}
+
+// 9: set of the analysis channel.
+fn set_analysis(b: &[u8]) -> Analysed {
+    let input = call_log::rest(b, 2);
+    let mut samples = samples_300();
+    let k = call_log::count_samples(input, &samples);
+    call_log::samples(input, &mut samples[..k]);
+    let config = call_log::byte_at(b, 1);
+    Analysed {
+        channel: analysis::Channel { config, samples },
+        answer: plain(0),
+    }
+}
+
+// 10: set of the synthesis channel.
+fn set_synthesis(b: &[u8]) -> Played {
+    let input = call_log::rest(b, 2);
+    let mut memory = floats_300();
+    let k = call_log::count_floats(input, &memory);
+    call_log::floats(input, &mut memory[..k]);
+    let config = call_log::byte_at(b, 1);
+    Played {
+        channel: synthesis::Channel { config, memory },
+        answer: plain(0),
+    }
+}
+
+// ---- the text
+
+impl Answer {
+    // The text of call number count.
+    fn put(self, out: &mut [u8], at: usize, count: u64, kind: u8) -> usize {
+        let e = self.extra;
+        let x = self.x;
+        let y = self.y;
+        call_text::put_call(
+            out,
+            at,
+            count,
+            kind,
+            self.number,
+            self.index,
+            e,
+            &x,
+            self.m,
+            &y,
+            self.n,
+        )
+    }
+}
+
+// The last line.
+fn last(out: &mut [u8], at: usize, is_end: bool, count: u64) -> usize {
+    if is_end {
+        return call_text::put_last(out, at, b"end", count);
+    }
+    call_text::put_last(out, at, b"stopped", count)
+}
+
+// ---- a step
+
+// How many bytes the call at the front of b takes, 0 where there is none.
+fn taken(b: &[u8]) -> usize
+    ensures { λ r. ⌜ r ≤ length (now (b .entry)) ⌝ }
+{
+    if b.len() == 0 {
+        return 0;
+    }
+    let Taken::Whole(n) = call_log::call_taken(b) else {
+        return 0;
+    };
+    n
 }
 
 impl Bench {
@@ -244,270 +345,102 @@ impl Bench {
         let analysis = a.channel;
         let synthesis = s.channel;
         Bench {
-            count: 0,
-            text: empty(),
             analysis,
             synthesis,
-            is_done: false,
+            answer: plain(0),
         }
     }
 
-    // 1: clear of the analysis channel.
-    fn clear_analysis(mut self, b: &[u8], out: &mut [u8]) -> Bench {
-        let cleared = analysis::clear(call_log::byte_at(b, 1));
-        self.text = put_line(out, self.text, self.count, 1, cleared.number, 0);
-        if cleared.number == 0 {
-            let channel = cleared.channel;
-            self.analysis = channel;
-        }
-        self
-    }
-
-    // 2: analysis frame: the samples, the areas, the call.
-    fn analyse(self, b: &[u8], out: &mut [u8]) -> Bench {
-        let input = call_log::rest(b, 1);
-        let mut room = samples_room();
-        let n = call_log::count_samples(input, &room);
-        self.analyse_on(input, &mut room[..n], out)
-    }
-
-    fn analyse_on(self, b: &[u8], input: &mut [i16], out: &mut [u8]) -> Bench {
-        call_log::samples(b, input);
-        let lengths = after_samples(b);
-        let mut lines = call_log::area();
-        let mut energies = call_log::area();
-        let m = call_log::count_floats(lengths, &lines);
-        let n = call_log::count_floats(call_log::rest(lengths, 2), &energies);
-        self.analysed(input, &mut lines[..m], &mut energies[..n], out)
-    }
-
-    fn analysed(
-        mut self,
-        input: &[i16],
-        lines: &mut [f32],
-        energies: &mut [f32],
-        out: &mut [u8],
-    ) -> Bench {
-        let channel = self.analysis;
-        let framed = channel.frame(input, lines, energies);
-        let next = framed.channel;
-        self.analysis = next;
-        let head = put_head(out, self.text, self.count, 2, framed.number, 0);
-        self.text = put_frame(out, head, framed.flag, lines, energies);
-        self
-    }
-
-    // 3: clear of the synthesis channel.
-    fn clear_synthesis(mut self, b: &[u8], out: &mut [u8]) -> Bench {
-        let cleared = synthesis::clear(call_log::byte_at(b, 1));
-        self.text = put_line(out, self.text, self.count, 3, cleared.number, 0);
-        if cleared.number == 0 {
-            let channel = cleared.channel;
-            self.synthesis = channel;
-        }
-        self
-    }
-
-    // 4: synthesis frame: the lines, the area, the call.
-    fn synthesise(self, b: &[u8], out: &mut [u8]) -> Bench {
-        let input = call_log::rest(b, 1);
-        let mut room = call_log::area();
-        let n = call_log::count_floats(input, &room);
-        self.synthesise_on(input, &mut room[..n], out)
-    }
-
-    fn synthesise_on(self, b: &[u8], lines: &mut [f32], out: &mut [u8]) -> Bench {
-        call_log::floats(b, lines);
-        let mut samples = call_log::area();
-        let m = call_log::count_floats(after_floats(b), &samples);
-        self.synthesised(lines, &mut samples[..m], out)
-    }
-
-    fn synthesised(mut self, lines: &[f32], samples: &mut [f32], out: &mut [u8]) -> Bench {
-        let channel = self.synthesis;
-        let framed = channel.frame(lines, samples);
-        let next = framed.channel;
-        self.synthesis = next;
-        let line = put_line(out, self.text, self.count, 4, framed.number, framed.index);
-        self.text = put_area(out, line, b"samples", samples);
-        self
-    }
-
-    // 8: show of both channels.
-    fn show(mut self, out: &mut [u8]) -> Bench {
-        let line = put_line(out, self.text, self.count, 8, 0, 0);
-        let analysis = put_analysis(out, line, self.analysis);
-        self.text = put_synthesis(out, analysis, self.synthesis);
-        self
-    }
-
-    // 9: set of the analysis channel.
-    fn set_analysis(mut self, b: &[u8], out: &mut [u8]) -> Bench {
-        let input = call_log::rest(b, 2);
-        let mut samples = samples_300();
-        let n = call_log::count_samples(input, &samples);
-        call_log::samples(input, &mut samples[..n]);
-        let config = call_log::byte_at(b, 1);
-        let channel = analysis::Channel { config, samples };
-        self.analysis = channel;
-        self.text = put_line(out, self.text, self.count, 9, 0, 0);
-        self
-    }
-
-    // 10: set of the synthesis channel.
-    fn set_synthesis(mut self, b: &[u8], out: &mut [u8]) -> Bench {
-        let input = call_log::rest(b, 2);
-        let mut memory = floats_300();
-        let n = call_log::count_floats(input, &memory);
-        call_log::floats(input, &mut memory[..n]);
-        let config = call_log::byte_at(b, 1);
-        let channel = synthesis::Channel { config, memory };
-        self.synthesis = channel;
-        self.text = put_line(out, self.text, self.count, 10, 0, 0);
-        self
-    }
-
-    // A call, and the calls that answer without a channel.
-    fn answer(mut self, b: &[u8], out: &mut [u8]) -> Bench {
-        match call_log::byte_at(b, 0) {
-            1 => self.clear_analysis(b, out),
-            2 => self.analyse(b, out),
-            3 => self.clear_synthesis(b, out),
-            4 => self.synthesise(b, out),
-            8 => self.show(out),
-            9 => self.set_analysis(b, out),
-            10 => self.set_synthesis(b, out),
-            5 => {
-                self.text = fft(b, out, self.text, self.count);
-                self
-            }
-            6 => {
-                self.text = dct(b, out, self.text, self.count);
-                self
-            }
-            // 7: call_taken takes no other
-            _ => {
-                self.text = loudest(b, out, self.text, self.count);
-                self
-            }
+    fn with_analysis(self, a: Analysed) -> Bench {
+        let analysis = a.channel;
+        let synthesis = self.synthesis;
+        let answer = a.answer;
+        Bench {
+            analysis,
+            synthesis,
+            answer,
         }
     }
-}
 
-// The rest of an analysis frame's text.
-fn put_frame(out: &mut [u8], t: Text, flag: bool, lines: &[f32], energies: &[f32]) -> Text {
-    let flagged = put(out, t, if flag { b'1' } else { b'0' });
-    let line = put(out, flagged, b'\n');
-    let area = put_area(out, line, b"lines", lines);
-    put_area(out, area, b"energies", energies)
-}
+    fn with_synthesis(self, p: Played) -> Bench {
+        let analysis = self.analysis;
+        let synthesis = p.channel;
+        let answer = p.answer;
+        Bench {
+            analysis,
+            synthesis,
+            answer,
+        }
+    }
 
-// The two channels of a show.
-fn put_analysis(out: &mut [u8], t: Text, channel: analysis::Channel) -> Text {
-    let word = put_all(out, t, b"analysis ");
-    let config = put_decimal(out, word, channel.config as u64);
-    let samples = channel.samples;
-    put_samples(out, config, &samples)
-}
+    fn with_answer(self, answer: Answer) -> Bench {
+        let analysis = self.analysis;
+        let synthesis = self.synthesis;
+        Bench {
+            analysis,
+            synthesis,
+            answer,
+        }
+    }
 
-fn put_synthesis(out: &mut [u8], t: Text, channel: synthesis::Channel) -> Text {
-    let word = put_all(out, t, b"synthesis ");
-    let config = put_decimal(out, word, channel.config as u64);
-    let memory = channel.memory;
-    put_floats(out, config, &memory)
-}
+    // After a call. Its kind is one that call_taken takes.
+    fn made(self, kind: u8, b: &[u8]) -> Bench {
+        let a = self.analysis;
+        let s = self.synthesis;
+        match kind {
+            1 => self.with_analysis(clear_analysis(a, b)),
+            2 => self.with_analysis(analyse(a, b)),
+            3 => self.with_synthesis(clear_synthesis(s, b)),
+            4 => self.with_synthesis(play(s, b)),
+            5 => self.with_answer(fft(b)),
+            6 => self.with_answer(dct(b)),
+            7 => self.with_answer(loudest(b)),
+            9 => self.with_analysis(set_analysis(b)),
+            10 => self.with_synthesis(set_synthesis(b)),
+            _ => self,
+        }
+    }
 
-// 5: FFT: the real parts, the imaginary parts, the areas, the call.
-fn fft(b: &[u8], out: &mut [u8], t: Text, count: u64) -> Text {
-    let mut room = call_log::area();
-    let n = call_log::count_floats(call_log::rest(b, 4), &room);
-    fft_real(b, &mut room[..n], out, t, count)
-}
+    // The text of call number count; 8 shows both channels.
+    fn put(self, out: &mut [u8], at: usize, count: u64, kind: u8) -> usize {
+        if kind == 8 {
+            let a = self.analysis;
+            let s = self.synthesis;
+            let samples = a.samples;
+            let memory = s.memory;
+            return call_text::put_show(out, at, count, a.config, &samples, s.config, &memory);
+        }
+        let answer = self.answer;
+        answer.put(out, at, count, kind)
+    }
 
-fn fft_real(b: &[u8], re: &mut [f32], out: &mut [u8], t: Text, count: u64) -> Text {
-    let real = call_log::rest(b, 4);
-    call_log::floats(real, re);
-    let imag = after_floats(real);
-    let mut room = call_log::area();
-    let n = call_log::count_floats(imag, &room);
-    fft_imag(b, re, imag, &mut room[..n], out, t, count)
-}
-
-fn fft_imag(
-    b: &[u8],
-    re: &[f32],
-    imag: &[u8],
-    im: &mut [f32],
-    out: &mut [u8],
-    t: Text,
-    count: u64,
-) -> Text {
-    call_log::floats(imag, im);
-    let lengths = after_floats(imag);
-    let mut real = call_log::area();
-    let mut imag = call_log::area();
-    let m = call_log::count_floats(lengths, &real);
-    let n = call_log::count_floats(call_log::rest(lengths, 2), &imag);
-    fft_on(b, re, im, &mut real[..m], &mut imag[..n], out, t, count)
-}
-
-fn fft_on(
-    b: &[u8],
-    re: &[f32],
-    im: &[f32],
-    real: &mut [f32],
-    imag: &mut [f32],
-    out: &mut [u8],
-    t: Text,
-    count: u64,
-) -> Text {
-    let size = call_log::short(call_log::rest(b, 1)) as usize;
-    let is_inverse = call_log::byte_at(b, 3) == 1;
-    let v = kissfft::fft(size, is_inverse, re, im, real, imag);
-    let line = put_line(out, t, count, 5, v.number, v.index);
-    let area = put_area(out, line, b"real", real);
-    put_area(out, area, b"imag", imag)
-}
-
-// 6: DCT: the values, the call.
-fn dct(b: &[u8], out: &mut [u8], t: Text, count: u64) -> Text {
-    let mut room = call_log::area();
-    let n = call_log::count_floats(call_log::rest(b, 3), &room);
-    dct_on(b, &mut room[..n], out, t, count)
-}
-
-fn dct_on(b: &[u8], values: &mut [f32], out: &mut [u8], t: Text, count: u64) -> Text {
-    call_log::floats(call_log::rest(b, 3), values);
-    let length = call_log::short(call_log::rest(b, 1)) as usize;
-    let v = dct_iv::dct_iv(length, values);
-    let line = put_line(out, t, count, 6, v.number, v.index);
-    put_area(out, line, b"buffer", values)
-}
-
-// 7: loudest band: the energies, the call.
-fn loudest(b: &[u8], out: &mut [u8], t: Text, count: u64) -> Text {
-    let mut room = call_log::area();
-    let n = call_log::count_floats(call_log::rest(b, 1), &room);
-    loudest_on(b, &mut room[..n], out, t, count)
-}
-
-fn loudest_on(b: &[u8], energies: &mut [f32], out: &mut [u8], t: Text, count: u64) -> Text {
-    call_log::floats(call_log::rest(b, 1), energies);
-    let heard = loudest::loudest_band(energies);
-    let head = put_head(out, t, count, 7, heard.number, heard.index);
-    let found = heard.loudest;
-    put_loudest(out, head, found)
-}
-
-// The loudest band: its number and its energy, or a dash.
-fn put_loudest(out: &mut [u8], t: Text, found: Loudest) -> Text {
-    let Loudest::Loud(band, energy) = found else {
-        return put_all(out, t, b"-\n");
-    };
-    let named = put_decimal(out, t, band as u64);
-    let word = put_all(out, named, b"\nenergy");
-    let line = put_float(out, word, energy);
-    put(out, line, b'\n')
+    // The call at the front of b, or the last line; neither where its text would find no room.
+    fn step(self, b: &[u8], out: &mut [u8], at: usize, count: u64) -> Step
+        ensures { λ r. ⌜ r .used ≤ length (now (b .entry)) ⌝ }
+    {
+        if out.len() <= at {
+            return Step {
+                bench: self,
+                at,
+                used: 0,
+            };
+        }
+        let n = taken(b);
+        if n == 0 {
+            return Step {
+                bench: self,
+                at: last(out, at, b.len() == 0, count),
+                used: 0,
+            };
+        }
+        let kind = call_log::byte_at(b, 0);
+        let next = self.made(kind, &b[..n]);
+        Step {
+            bench: next,
+            at: next.put(out, at, count, kind),
+            used: n,
+        }
+    }
 }
 
 // ---- the input
@@ -526,44 +459,6 @@ fn to_front(input: &mut [u8], from: usize, to: usize) -> usize
     n
 }
 
-// One read after the bytes that are held.
-fn read_more(input: &mut [u8], held: usize) -> Input
-    requires { ⌜ held ≤ length (now input) ⌝ }
-    ensures { λ r. ⌜ Held (r .from) (r .to) (length (now (input .exit))) ⌝ }
-{
-    let room = &mut input[held..];
-    let got = libc::read(STDIN_FILENO, room);
-    let n = io::count(got, room);
-    Input {
-        from: 0,
-        to: held + n,
-        is_over: got <= 0,
-        has_failed: got < 0,
-    }
-}
-
-// Reads until a longest call is held, or the log has no more: each read that is not the last brings a byte.
-fn fill(input: &mut [u8], held: usize) -> Input
-    requires { ⌜ held ≤ length (now input) ⌝ }
-    ensures { λ r. ⌜ Held (r .from) (r .to) (length (now (input .exit))) ⌝ }
-{
-    let mut at = Input {
-        from: 0,
-        to: held,
-        is_over: false,
-        has_failed: false,
-    };
-    let mut i = 0;
-    while i < LONGEST {
-        if at.is_over || LONGEST <= at.to {
-            return at;
-        }
-        at = read_more(input, at.to);
-        i += 1;
-    }
-    at
-}
-
 // The input with a longest call held, or all that is left.
 fn ready(input: &mut [u8], at: Input) -> Input
     requires { ⌜ Held (at .from) (at .to) (length (now input)) ⌝ }
@@ -573,99 +468,82 @@ fn ready(input: &mut [u8], at: Input) -> Input
         return at;
     }
     let held = to_front(input, at.from, at.to);
-    fill(input, held)
+    let room = &mut input[held..];
+    let n = io::read_full(STDIN_FILENO, room);
+    Input {
+        from: 0,
+        to: held + n,
+        is_over: n < room.len(),
+    }
+}
+
+// ---- the output
+
+// Writes out what the output holds, and gives the place to go on at: the output's end where a write failed or a text found no room.
+fn flush(out: &[u8], at: usize) -> usize {
+    if out.len() <= at {
+        io::write_all(STDERR_FILENO, b"replay: the text is cut\n");
+        return out.len();
+    }
+    if !io::write_all(STDOUT_FILENO, &out[..at]) {
+        io::write_all(STDERR_FILENO, b"replay: a write failed\n");
+        return out.len();
+    }
+    0
+}
+
+// The place to go on at, with room for an answer after it.
+fn room(out: &[u8], at: usize) -> usize {
+    if out.len() <= at {
+        return at;
+    }
+    if ANSWER <= out.len() - at {
+        return at;
+    }
+    flush(out, at)
 }
 
 // ---- the run
 
-impl Bench {
-    // The last line: the word and the number of calls.
-    fn stopped(mut self, out: &mut [u8], word: &[u8]) -> Bench {
-        self.text = put_last(out, self.text, word, self.count);
-        self.is_done = true;
-        self
-    }
-
-    // A call made, and counted; the count stays at its largest.
-    fn made(self, b: &[u8], out: &mut [u8]) -> Bench {
-        let mut next = self.answer(b, out);
-        if next.count < u64::MAX {
-            next.count = next.count + 1;
-        }
-        next
-    }
-
-    // The call at the front of b, or the last line.
-    fn step(self, b: &[u8], out: &mut [u8]) -> Step
-        ensures { λ r. ⌜ r .used ≤ length (now (b .entry)) ⌝ }
-    {
-        if b.len() == 0 {
-            return Step {
-                bench: self.stopped(out, b"end "),
-                used: 0,
-            };
-        }
-        let Taken::Whole(n) = call_log::call_taken(b) else {
-            return Step {
-                bench: self.stopped(out, b"stopped "),
-                used: 0,
-            };
-        };
-        Step {
-            bench: self.made(&b[..n], out),
-            used: n,
-        }
-    }
-}
-
-// A read that fails is not the end of the log.
-fn tell_failed() {
-    io::write_all(STDERR_FILENO, b"replay: a read failed\n");
-}
-
-// The calls after the header, one after the other. A run has fewer turns than are counted down here.
-fn calls(input: &mut [u8], out: &mut [u8], header: Input) -> Text
+// The calls after the header, one after the other, as long as they can be counted. How far the output is filled.
+fn calls(input: &mut [u8], out: &mut [u8], header: Input) -> usize
     requires { ⌜ Held (header .from) (header .to) (length (now input)) ⌝ }
 {
-    let mut at = header;
+    let mut held = header;
     let mut bench = Bench::new();
-    let mut turns = u64::MAX;
-    while turns > 0 && !bench.is_done {
-        at = ready(input, at);
-        if at.has_failed {
-            tell_failed();
-            return bench.text;
-        }
-        let from = at.from;
-        let to = at.to;
-        let step = bench.step(&input[from..to], out);
-        at.from = from + step.used;
+    let mut at = 0;
+    let mut count = 0u64;
+    while count < u64::MAX {
+        held = ready(input, held);
+        let from = held.from;
+        let to = held.to;
+        let step = bench.step(&input[from..to], out, at, count);
+        held.from = from + step.used;
         bench = step.bench;
-        turns -= 1;
+        if step.used == 0 {
+            return step.at;
+        }
+        at = room(out, step.at);
+        count += 1;
     }
-    bench.text
+    at
 }
 
 // The whole log.
-fn run(input: &mut [u8], out: &mut [u8]) -> Text {
-    let at = fill(input, 0);
-    if at.has_failed {
-        tell_failed();
-        return empty();
-    }
-    let to = at.to;
-    let number = call_log::header_number(call_log::read_header(&input[..to]));
+fn run(input: &mut [u8], out: &mut [u8]) -> usize {
+    let n = io::read_full(STDIN_FILENO, input);
+    let number = call_log::header_number(call_log::read_header(&input[..n]));
     if number != 0 {
-        return put_last(out, empty(), b"refused ", number as u64);
+        return call_text::put_last(out, 0, b"refused", number as u64);
     }
+    let is_over = n < input.len();
     calls(
         input,
         out,
         Input {
             from: 5,
-            to: at.to,
-            is_over: at.is_over,
-            has_failed: at.has_failed,
+            to: n,
+            is_over,
         },
     )
 }
@@ -673,6 +551,6 @@ fn run(input: &mut [u8], out: &mut [u8]) -> Text {
 fn main() {
     let mut input = io::large_buffer();
     let mut out = io::large_buffer();
-    let text = run(&mut input, &mut out);
-    flush(&out, text);
+    let at = run(&mut input, &mut out);
+    flush(&out, at);
 }

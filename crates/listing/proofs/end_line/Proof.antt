@@ -1,7 +1,8 @@
 -- `listing::end_line` meets its contract: the word, a space and the number. Assumes nothing.
 use mathlib.Core.Path.{_≡_, ap, _∙_}
 use mathlib.Core.List.{append-assoc}
-use Rattle.listing.specs.Text.{decimal, endLine}
+use Rattle.plain_text.specs.Text.{decimal}
+use Rattle.listing.specs.Text.{endLine}
 use Rattle.listing.specs.Steps.{text}
 use borrow.Author.Needs.{needs}
 use Rattle.listing.proofs.end_line.Statement.{statement}

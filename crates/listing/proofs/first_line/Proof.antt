@@ -5,7 +5,8 @@ use mathlib.Core.List.{_++_, append-assoc}
 use Prim.Native.Nat.{ℕ, _+_, _≤_}
 use native.Mathlib.Omega.{arith}
 use Rattle.listing.specs.declared.line.Text.{Text}
-use Rattle.listing.specs.Text.{space, newline, decimal, firstLine}
+use Rattle.plain_text.specs.Text.{space, newline, decimal}
+use Rattle.listing.specs.Text.{firstLine}
 use Rattle.listing.specs.Steps.{text}
 use Rattle.listing.proofs.Lines.{begun, grown, says-len, length-numbered}
 use borrow.Author.Needs.{needs}

@@ -1,4 +1,4 @@
-use Rattle.listing.specs.Text.{newline, decimal}
+use Rattle.plain_text.specs.Text.{newline, decimal}
 use mathlib.Core.List.{_++_}
 -- `listing::worded` meets its contract: a line that grows from a blank one. Assumes nothing.
 use mathlib.Core.Path.{_≡_, ap, _∙_}

@@ -5,9 +5,9 @@ use Prim.Native.Nat.{ℕ, _≤_}
 use native.Mathlib.Omega.{arith}
 use lib.ListN.{length}
 use Rattle.listing.specs.declared.line.Text.{Text}
-use Rattle.listing.specs.Text.{decimal}
+use Rattle.plain_text.specs.Text.{decimal}
 use Rattle.listing.specs.Steps.{with}
-use Rattle.listing.proofs.Decimal.{length-decimal}
+use Rattle.plain_text.proofs.Decimal.{length-decimal}
 use Rattle.listing.proofs.Lines.{with-len, with-with}
 use borrow.Author.Needs.{needs}
 use Rattle.listing.proofs.line.Text.numbered.Statement.{statement}

@@ -5,7 +5,7 @@ use Prim.Native.Nat.{ℕ, _≤_}
 use native.Mathlib.Omega.{arith}
 use lib.ListN.{length}
 use Rattle.listing.specs.Steps.{with}
-use Rattle.listing.proofs.Decimal.{decimal-is, length-decimal}
+use Rattle.plain_text.proofs.Decimal.{decimal-is, length-decimal}
 use borrow.Author.Needs.{needs}
 use Rattle.listing.proofs.line.Text.with_number.Statement.{statement}
 use Rattle.listing.proofs.line.Text.with_number.Tie as tie

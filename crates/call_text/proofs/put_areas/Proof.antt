@@ -1,0 +1,74 @@
+-- `call_text::put_areas` meets its contract: each arm writes the lines of its kind. Assumes nothing.
+use mathlib.Core.Path.{_≡_, ap, sym, _∙_}
+use mathlib.Core.List.{List, []}
+use Prim.Native.Nat.{ℕ}
+use lib.Ieee.{Float}
+use borrow.Author.Tests.{ne-eqb}
+use Rattle.call_text.specs.Page.{Page, page, written}
+use Rattle.call_text.specs.Lines.{areaLines}
+use Rattle.call_text.proofs.Pages.{nothing}
+use borrow.Author.Needs.{needs}
+use Rattle.call_text.proofs.put_areas.Statement.{statement}
+use Rattle.call_text.proofs.put_areas.Tie as tie
+
+of-kind : (p : Page) (x y : List Float) {k n : ℕ} → k ≡ n → written p (areaLines n x y) ≡ written p (areaLines k x y)
+of-kind p x y e = ap (λ (k : ℕ). written p (areaLines k x y)) (sym e)
+
+returns : tie.Need-returns
+returns c =
+    let a = c .before .before .before .before .before .before .before .before .before .before .args in
+    c .before .before .put-both .ensures ∙ of-kind (page (a .out .now) (a .at)) (a .x .now) (a .y .now) (c .before .before .before .before .before .before .match .keys1)
+
+returns-2 : tie.Need-returns-2
+returns-2 c =
+    let a = c .before .before .before .before .before .before .before .before .before .args in
+    c .before .before .put-area .ensures ∙ of-kind (page (a .out .now) (a .at)) (a .x .now) (a .y .now) (c .before .before .before .before .before .match .keys2)
+
+returns-3 : tie.Need-returns-3
+returns-3 c =
+    let a = c .before .before .before .before .before .before .before .before .before .before .args in
+    c .before .before .put-both2 .ensures ∙ of-kind (page (a .out .now) (a .at)) (a .x .now) (a .y .now) (c .before .before .before .before .before .before .match .keys3)
+
+returns-4 : tie.Need-returns-4
+returns-4 c =
+    let a = c .before .before .before .before .before .before .before .before .before .args in
+    c .before .before .put-area2 .ensures ∙ of-kind (page (a .out .now) (a .at)) (a .x .now) (a .y .now) (c .before .before .before .before .before .match .keys4)
+
+returns-5 : tie.Need-returns-5
+returns-5 c =
+    let a = c .before .before .before .before .before .before .before .before .args in
+    c .before .before .put-energy .ensures ∙ of-kind (page (a .out .now) (a .at)) (a .x .now) (a .y .now) (c .before .before .before .before .match .keys5)
+
+returns-6 : tie.Need-returns-6
+returns-6 c =
+    let a = c .before .before .before .before .args in
+    let r = c .match .rest in
+    let k = a .kind in
+    simp (ne-eqb k 2 (r .0 .0 .0 .0 .1), ne-eqb k 4 (r .0 .0 .0 .1), ne-eqb k 5 (r .0 .0 .1), ne-eqb k 6 (r .0 .1), ne-eqb k 7 (r .1)) (nothing (page (a .out .now) (a .at)))
+
+pub put-areas-spec : {M : Type 1} → statement M
+put-areas-spec =
+    tie.close
+    (tie.spec
+    (λ c. search needs)
+    (λ c. search needs)
+    (λ c κs. search needs)
+    (λ c. search needs)
+    (λ c κs. search needs)
+    (λ c. search needs)
+    (λ c. search needs)
+    (λ c κs. search needs)
+    (λ c. search needs)
+    (λ c κs. search needs)
+    (λ c κs. search needs)
+    (λ c. search needs)
+    returns
+    (λ c. search needs)
+    returns-2
+    (λ c. search needs)
+    returns-3
+    (λ c. search needs)
+    returns-4
+    (λ c. search needs)
+    returns-5
+    returns-6)

@@ -1,0 +1,39 @@
+-- `call_text::put_bits` meets its contract: `io::hex` gives eight digits. Assumes nothing.
+use mathlib.Core.Path.{ap, _∙_}
+use Rattle.call_text.specs.Page.{page, written}
+use Rattle.call_text.proofs.Values.{hex-is}
+use borrow.Author.Needs.{needs}
+use Rattle.call_text.proofs.put_bits.Statement.{statement}
+use Rattle.call_text.proofs.put_bits.Tie as tie
+
+hex-requires : tie.Need-hex-requires
+hex-requires c κs = search needs
+
+array-share-prefix-room : tie.Need-array-share-prefix-room
+array-share-prefix-room c = search needs
+
+slice-aggregate-put-bytes : tie.Need-slice-aggregate-put-bytes
+slice-aggregate-put-bytes c = search needs
+
+put-bytes-requires : tie.Need-put-bytes-requires
+put-bytes-requires c κs = search needs
+
+same-length : tie.Need-same-length
+same-length c = search needs
+
+returns : tie.Need-returns
+returns c =
+    let a = c .before .before .before .before .before .before .before .before .args in
+    let d = c .before .before .before .before .before .hex in
+    c .before .before .put-bytes .ensures ∙ ap (written (page (a .out .now) (a .at))) (d .ensures .1 .1 ∙ hex-is (a .bits) (d .result) (c .before .before .before .before .before .before .before .before .fits .bits .fits) (d .ensures .1 .0))
+
+pub put-bits-spec : {M : Type 1} → statement M
+put-bits-spec =
+    tie.close
+    (tie.spec
+    hex-requires
+    array-share-prefix-room
+    slice-aggregate-put-bytes
+    put-bytes-requires
+    same-length
+    returns)

@@ -1,0 +1,70 @@
+-- `call_text::put_values` meets its contract. The invariant: what is left, written on the page at hand, makes the page that is to be (`Going`). Assumes nothing.
+use mathlib.Core.List.{_++_}
+use Prim.Native.Nat.{_-_}
+use native.Mathlib.Omega.{arith}
+use lib.Ieee.{nan}
+use lib.ListN.{length}
+use Rattle.plain_text.specs.Text.{space, newline}
+use Rattle.call_text.specs.Page.{page}
+use Rattle.call_text.specs.Lines.{value, each}
+use Rattle.call_text.proofs.Pages.{Going, begun, again, done, two}
+use borrow.Author.Needs.{needs}
+use Rattle.call_text.proofs.put_values.Statement.{statement}
+use Rattle.call_text.proofs.put_values.Tie as tie
+
+abbrev Inv-loop : tie.InvT-loop
+Inv-loop out₀ at x k₀ i₀ out k i = Going (λ y. space ++ value y) x out₀ k₀ out k i
+
+abbrev μ-loop : tie.MeasureT-loop
+μ-loop out₀ at x k₀ i₀ out k i = length x - i
+
+loop-holds : tie.Need-loop-holds Inv-loop μ-loop
+loop-holds c = let a = c .before .before .args in begun (a .out .now) (a .at)
+
+mul-put-value : tie.Need-mul-put-value Inv-loop μ-loop
+mul-put-value c = search needs
+
+shared-slice-read-put-value : tie.Need-shared-slice-read-put-value Inv-loop μ-loop
+shared-slice-read-put-value c = search needs
+
+put-value-requires : tie.Need-put-value-requires Inv-loop μ-loop
+put-value-requires c κs = search needs
+
+add-i : tie.Need-add-i Inv-loop μ-loop
+add-i c = search needs
+
+loop-less : tie.Need-loop-less Inv-loop μ-loop
+loop-less c = search needs
+
+loop-again : tie.Need-loop-again Inv-loop μ-loop
+loop-again c =
+    let w = c .before .before .put-value in
+    again nan (w .last .0) (w .result) (c .before .before .before .before .before .before .loop .inv) (omega arith) (w .kept .0) (w .ensures)
+
+put-requires : tie.Need-put-requires Inv-loop μ-loop
+put-requires c κs = search needs
+
+same-length : tie.Need-same-length Inv-loop μ-loop
+same-length c = search needs
+
+returns : tie.Need-returns Inv-loop μ-loop
+returns c =
+    let a = c .before .before .before .before .before .before .before .before .args in
+    two (page (a .out .now) (a .at)) (each (λ y. space ++ value y) (a .x .now)) newline (done (c .before .before .before .before .before .loop .inv) (omega arith)) (c .before .before .put .ensures)
+
+pub put-values-spec : {M : Type 1} → statement M
+put-values-spec =
+    tie.close
+    (tie.spec
+    Inv-loop
+    μ-loop
+    loop-holds
+    mul-put-value
+    shared-slice-read-put-value
+    put-value-requires
+    add-i
+    loop-less
+    loop-again
+    put-requires
+    same-length
+    returns)

@@ -1,0 +1,30 @@
+-- `call_text::put_worded` meets its contract: three texts. Assumes nothing.
+use Rattle.plain_text.specs.Text.{space, decimal}
+use Rattle.call_text.specs.Page.{page}
+use Rattle.call_text.specs.Lines.{worded}
+use Rattle.call_text.proofs.Pages.{three}
+use borrow.Author.Needs.{needs}
+use Rattle.call_text.proofs.put_worded.Statement.{statement}
+use Rattle.call_text.proofs.put_worded.Tie as tie
+
+put-bytes-requires : tie.Need-put-bytes-requires
+put-bytes-requires c κs = search needs
+
+put-requires : tie.Need-put-requires
+put-requires c κs = search needs
+
+put-decimal-requires : tie.Need-put-decimal-requires
+put-decimal-requires c κs = search needs
+
+same-length : tie.Need-same-length
+same-length c = search needs
+
+returns : tie.Need-returns
+unfolding worded
+returns c =
+    let a = c .before .before .before .before .before .before .before .before .before .before .before .before .before .before .args in
+    three (page (a .out .now) (a .at)) (a .word .now) space (decimal (a .n)) (c .before .before .before .before .before .before .before .before .before .before .put-bytes .ensures) (c .before .before .before .before .before .before .put .ensures) (c .before .before .put-decimal .ensures)
+
+pub put-worded-spec : {M : Type 1} → statement M
+put-worded-spec =
+    tie.close (tie.spec put-bytes-requires put-requires put-decimal-requires same-length returns)
