@@ -1,9 +1,11 @@
-// Lists frame files to standard output: the one on standard input, or those that its arguments name, each after its name, where `-` is standard
-// input. The work is listing's; here is only reading and writing, of which no contract can tell what is read or written.
+// Lists the frame file on standard input to standard output. The work is listing's; here is only reading and writing, of which no contract can
+// tell what is read or written.
 ghost use mathlib.Core.Path.{_≡_};
 ghost use Prim.Native.Nat.{_+_, _≤_};
 ghost use lib.ListN.{length};
+ghost use Rattle.io.specs.Counts.{Counts};
 use listing::Lister;
+use listing::Stepped;
 use listing::Text;
 
 // What was read: how many bytes, whether more may come, and whether no read failed.
@@ -19,19 +21,18 @@ struct Output {
     ok: bool,
 }
 
-// What is carried from record to record: what is listed so far, the bytes that wait, and whether to go on.
+// A step of the listing, and whether no read failed on the way to it.
 struct Turn {
-    lister: Lister,
-    len: usize,
-    more: bool,
+    stepped: Stepped,
+    ok: bool,
 }
 
-// Reads once, to the places from `at` to `want` of buf.
-fn read_more(fd: i32, buf: &mut [u8], at: usize, want: usize) -> Input
-    requires { ⌜ (at ≤ want) × (want ≤ length (now buf)) ⌝ }
-    ensures { λ r. ⌜ r .len ≤ want ⌝ }
+// Reads once, to the places of buf from `at` on.
+fn read_more(buf: &mut [u8], at: usize) -> Input
+    requires { ⌜ at ≤ length (now buf) ⌝ }
+    ensures { λ r. ⌜ r .len ≤ length (now (buf .exit)) ⌝ }
 {
-    let got = libc::read(fd, &mut buf[at..want]);
+    let got = libc::read(libc::STDIN_FILENO, &mut buf[at..]);
     if got < 0 {
         io::write_all(libc::STDERR_FILENO, b"read failed\n");
         return Input {
@@ -40,7 +41,7 @@ fn read_more(fd: i32, buf: &mut [u8], at: usize, want: usize) -> Input
             ok: false,
         };
     }
-    let n = io::count(got, &buf[at..want]);
+    let n = io::count(got, &buf[at..]);
     Input {
         len: at + n,
         more: n > 0,
@@ -48,10 +49,9 @@ fn read_more(fd: i32, buf: &mut [u8], at: usize, want: usize) -> Input
     }
 }
 
-// Reads until `want` bytes are there, the input ends or a read fails, however small the pieces are that come.
-fn fill(fd: i32, buf: &mut [u8], want: usize) -> Input
-    requires { ⌜ want ≤ length (now buf) ⌝ }
-    ensures { λ r. ⌜ r .len ≤ want ⌝ }
+// Reads until buf is full, the input ends or a read fails, however small the pieces are that come.
+fn fill(buf: &mut [u8]) -> Input
+    ensures { λ r. ⌜ Counts (r .len) (now (buf .exit)) ⌝ }
 {
     let mut input = Input {
         len: 0,
@@ -59,9 +59,9 @@ fn fill(fd: i32, buf: &mut [u8], want: usize) -> Input
         ok: true,
     };
     let mut turns = u64::MAX;
-    while turns > 0 && input.more && input.len < want {
+    while turns > 0 && input.more && input.len < buf.len() {
         let at = input.len;
-        input = read_more(fd, buf, at, want);
+        input = read_more(buf, at);
         turns -= 1;
     }
     input
@@ -101,122 +101,61 @@ fn emit(out: &mut [u8], n: usize, text: Text) -> Output
     Output { len, ok: ready.ok }
 }
 
-fn least(a: usize, b: usize) -> usize
-    ensures { λ r. ⌜ (r ≤ a) × (r ≤ b) ⌝ }
-{
-    if a < b { a } else { b }
-}
-
-// The header's line.
-fn first_line(fd: i32, out: &mut [u8]) -> Turn
-    requires { ⌜ 64 ≤ length (now out) ⌝ }
-    ensures { λ r. ⌜ r .len ≤ length (now (out .exit)) ⌝ }
-{
-    let mut buf = io::buffer();
-    let input = fill(fd, &mut buf, 6);
+// Reads the header, as much as there is of it.
+fn open(header: &mut [u8]) -> Turn {
+    let input = fill(header);
     let got = input.len;
-    let stepped = listing::open(&buf[..got]);
-    let lister = stepped.lister;
-    let text = stepped.text;
-    if !input.ok {
-        return Turn {
-            lister,
-            len: 0,
-            more: false,
-        };
-    }
-    let output = emit(out, 0, text);
+    let stepped = listing::open(&header[..got]);
     Turn {
-        lister,
-        len: output.len,
-        more: output.ok && stepped.used > 0,
+        stepped,
+        ok: input.ok,
     }
 }
 
-// A record's line, or the last one.
-fn next_line(fd: i32, out: &mut [u8], n: usize, lister: Lister) -> Turn
-    requires { ⌜ (64 ≤ length (now out)) × (n ≤ length (now out)) ⌝ }
-    ensures { λ r. ⌜ r .len ≤ length (now (out .exit)) ⌝ }
-{
-    let mut buf = io::buffer();
-    let want = least(lister.wanted(), 4096);
-    let input = fill(fd, &mut buf, want);
-    if !input.ok {
-        return Turn {
-            lister,
-            len: n,
-            more: false,
-        };
-    }
+// Reads a record, as much as there is of it.
+fn step(lister: Lister, record: &mut [u8]) -> Turn {
+    let input = fill(record);
     let got = input.len;
-    let stepped = lister.step(&buf[..got]);
-    let next = stepped.lister;
-    let text = stepped.text;
-    let output = emit(out, n, text);
+    let stepped = lister.step(&record[..got]);
     Turn {
-        lister: next,
-        len: output.len,
-        more: output.ok && stepped.used > 0,
+        stepped,
+        ok: input.ok,
     }
+}
+
+fn next(lister: Lister) -> Turn {
+    let mut record = [0u8; 960]; // the longest frame's bytes
+    let want = lister.wanted();
+    step(lister, &mut record[..want])
 }
 
 // Line after line, to the last. A proved loop has to end, and nothing says that a file does: it counts its turns down.
-fn lines(fd: i32, out: &mut [u8]) -> usize
+fn lines(out: &mut [u8]) -> usize
     requires { ⌜ 64 ≤ length (now out) ⌝ }
     ensures { λ r. ⌜ r ≤ length (now (out .exit)) ⌝ }
 {
-    let mut now = first_line(fd, out);
+    let mut header = [0u8; 6];
+    let mut turn = open(&mut header);
+    let mut output = Output { len: 0, ok: true };
     let mut turns = u64::MAX;
-    while turns > 0 && now.more {
-        let n = now.len;
-        let lister = now.lister;
-        now = next_line(fd, out, n, lister);
+    while turns > 0 && turn.ok && output.ok {
+        let stepped = turn.stepped;
+        let text = stepped.text;
+        let n = output.len;
+        output = emit(out, n, text);
+        if stepped.used == 0 {
+            break;
+        }
+        let lister = stepped.lister;
+        turn = next(lister);
         turns -= 1;
     }
-    now.len
+    output.len
 }
 
-// Lists the file behind fd. A read that fails is told on standard error and ends the listing with no last line; a write that fails is told
-// there too.
-fn list(fd: i32) {
-    let mut out = io::buffer();
-    let n = lines(fd, &mut out);
-    flush(&out, n);
-}
-
-// Opens the file of that name, and lists it.
-fn list_file(path: &[u8]) {
-    let fd = os::open_read(path);
-    if fd < 0 {
-        os::fail(path);
-        return;
-    }
-    list(fd);
-    libc::close(fd);
-}
-
-// Lists what argument i names, after its name.
-fn list_named(i: usize) {
-    let mut path = io::buffer();
-    let n = os::arg(i, &mut path);
-    io::write_all(libc::STDOUT_FILENO, &path[..n]);
-    io::write_all(libc::STDOUT_FILENO, b"\n");
-    if n == 1 {
-        if path[0] == b'-' {
-            list(libc::STDIN_FILENO);
-            return;
-        }
-    }
-    list_file(&path[..n]);
-}
-
+// A read that fails is told on standard error and ends the listing with no last line; a write that fails is told there too.
 fn main() {
-    let count = os::arg_count();
-    if count < 2 {
-        list(libc::STDIN_FILENO);
-        return;
-    }
-    for i in 1..count {
-        list_named(i);
-    }
+    let mut out = io::buffer();
+    let n = lines(&mut out);
+    flush(&out, n);
 }

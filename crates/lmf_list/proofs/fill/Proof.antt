@@ -1,18 +1,17 @@
--- `lmf_list::fill` meets its contract. The invariant: no more is read than wanted, to a slice of the same length. Assumes nothing.
-use mathlib.Core.Path.{_≡_, refl}
+-- `lmf_list::fill` meets its contract. The invariant: what is read is a part of the slice, whose length stays. Assumes nothing.
+use mathlib.Core.Path.{_≡_}
 use Prim.Native.Nat.{_≤_}
 use native.Mathlib.Omega.{arith}
-use lib.ListN.{length}
+use lib.ListN.{length, length-take}
 use borrow.Author.Needs.{needs}
-use borrow.Author.Tests.{ltb-true}
 use Rattle.lmf_list.proofs.fill.Statement.{statement}
 use Rattle.lmf_list.proofs.fill.Tie as tie
 
 abbrev Inv-loop : tie.InvT-loop
-Inv-loop fd buf₀ want input₀ turns₀ buf input turns = (length buf ≡ length buf₀) × (input .len ≤ want)
+Inv-loop buf₀ input₀ turns₀ buf input turns = (length buf ≡ length buf₀) × (input .len ≤ length buf)
 
 abbrev μ-loop : tie.MeasureT-loop
-μ-loop fd buf₀ want input₀ turns₀ buf input turns = turns
+μ-loop buf₀ input₀ turns₀ buf input turns = turns
 
 loop-holds : tie.Need-loop-holds Inv-loop μ-loop
 loop-holds c = search needs
@@ -33,19 +32,19 @@ same-length : tie.Need-same-length Inv-loop μ-loop
 same-length c = search needs
 
 returns : tie.Need-returns Inv-loop μ-loop
-returns c = search needs
+returns c = (search needs, simp length-take (omega arith))
 
 same-length-2 : tie.Need-same-length-2 Inv-loop μ-loop
 same-length-2 c = search needs
 
 returns-2 : tie.Need-returns-2 Inv-loop μ-loop
-returns-2 c = search needs
+returns-2 c = (search needs, simp length-take (omega arith))
 
 same-length-3 : tie.Need-same-length-3 Inv-loop μ-loop
 same-length-3 c = search needs
 
 returns-3 : tie.Need-returns-3 Inv-loop μ-loop
-returns-3 c = search needs
+returns-3 c = (search needs, simp length-take (omega arith))
 
 pub fill-spec : {M : Type 1} → statement M
 fill-spec =

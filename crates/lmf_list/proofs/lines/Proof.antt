@@ -1,26 +1,31 @@
 -- `lmf_list::lines` meets its contract. The invariant: what waits is a part of the slice, whose length stays. Assumes nothing.
-use mathlib.Core.Path.{_≡_, refl}
+use mathlib.Core.Path.{_≡_}
 use Prim.Native.Nat.{_≤_}
-use native.Mathlib.Omega.{arith}
 use lib.ListN.{length}
 use borrow.Author.Needs.{needs}
 use Rattle.lmf_list.proofs.lines.Statement.{statement}
 use Rattle.lmf_list.proofs.lines.Tie as tie
 
 abbrev Inv-loop : tie.InvT-loop
-Inv-loop fd out₀ now₀ turns₀ out now turns = (length out ≡ length out₀) × (64 ≤ length out₀) × (now .len ≤ length out)
+Inv-loop out₀ turn₀ output₀ turns₀ out turn output turns = (length out ≡ length out₀) × (64 ≤ length out₀) × (output .len ≤ length out)
 
 abbrev μ-loop : tie.MeasureT-loop
-μ-loop fd out₀ now₀ turns₀ out now turns = turns
+μ-loop out₀ turn₀ output₀ turns₀ out turn output turns = turns
 
-first-line-requires : tie.Need-first-line-requires Inv-loop μ-loop
-first-line-requires c κs = search needs
+slice-aggregate-open : tie.Need-slice-aggregate-open Inv-loop μ-loop
+slice-aggregate-open c = search needs
+
+open-requires : tie.Need-open-requires Inv-loop μ-loop
+open-requires c κs = search needs
 
 loop-holds : tie.Need-loop-holds Inv-loop μ-loop
 loop-holds c = search needs
 
-next-line-requires : tie.Need-next-line-requires Inv-loop μ-loop
-next-line-requires c κs = search needs
+emit-requires : tie.Need-emit-requires Inv-loop μ-loop
+emit-requires c κs = search needs
+
+next-requires : tie.Need-next-requires Inv-loop μ-loop
+next-requires c κs = search needs
 
 sub-turns : tie.Need-sub-turns Inv-loop μ-loop
 sub-turns c = search needs
@@ -43,19 +48,37 @@ same-length-2 c = search needs
 returns-2 : tie.Need-returns-2 Inv-loop μ-loop
 returns-2 c = search needs
 
+same-length-3 : tie.Need-same-length-3 Inv-loop μ-loop
+same-length-3 c = search needs
+
+returns-3 : tie.Need-returns-3 Inv-loop μ-loop
+returns-3 c = search needs
+
+same-length-4 : tie.Need-same-length-4 Inv-loop μ-loop
+same-length-4 c = search needs
+
+returns-4 : tie.Need-returns-4 Inv-loop μ-loop
+returns-4 c = search needs
+
 pub lines-spec : {M : Type 1} → statement M
 lines-spec =
     tie.close
     (tie.spec
     Inv-loop
     μ-loop
-    first-line-requires
+    slice-aggregate-open
+    open-requires
     loop-holds
-    next-line-requires
+    emit-requires
+    next-requires
     sub-turns
     loop-less
     loop-again
     same-length
     returns
     same-length-2
-    returns-2)
+    returns-2
+    same-length-3
+    returns-3
+    same-length-4
+    returns-4)

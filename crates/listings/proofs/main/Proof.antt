@@ -1,24 +1,17 @@
--- `lmf_list::main` is safe and ends. The invariant: the argument is no further than their number. The measure is how many are left.
--- Assumes nothing.
-use Prim.Native.Nat.{_≤_, _-_}
+-- `listings::main` is safe and ends. The measure is how many arguments are left. Assumes nothing.
+use Prim.Native.Nat.{_-_}
 use borrow.Author.Needs.{needs}
-use Rattle.lmf_list.proofs.main.Statement.{statement}
-use Rattle.lmf_list.proofs.main.Tie as tie
+use Rattle.listings.proofs.main.Statement.{statement}
+use Rattle.listings.proofs.main.Tie as tie
 
 abbrev Inv-loop : tie.InvT-loop
-Inv-loop count i₀ i = i ≤ count
+Inv-loop i₀ i-end i = Unit
 
 abbrev μ-loop : tie.MeasureT-loop
-μ-loop count i₀ i = count - i
+μ-loop i₀ i-end i = i-end - i
 
 arg-count-requires : tie.Need-arg-count-requires Inv-loop μ-loop
 arg-count-requires c κs = search needs
-
-list-requires : tie.Need-list-requires Inv-loop μ-loop
-list-requires c κs = search needs
-
-returns : tie.Need-returns Inv-loop μ-loop
-returns c = search needs
 
 loop-holds : tie.Need-loop-holds Inv-loop μ-loop
 loop-holds c = search needs
@@ -35,8 +28,8 @@ loop-less c = search needs
 loop-again : tie.Need-loop-again Inv-loop μ-loop
 loop-again c = search needs
 
-returns-2 : tie.Need-returns-2 Inv-loop μ-loop
-returns-2 c = search needs
+returns : tie.Need-returns Inv-loop μ-loop
+returns c = search needs
 
 pub main-spec : {M : Type 1} → statement M
 main-spec =
@@ -45,11 +38,9 @@ main-spec =
     Inv-loop
     μ-loop
     arg-count-requires
-    list-requires
-    returns
     loop-holds
     list-named-requires
     add-i
     loop-less
     loop-again
-    returns-2)
+    returns)
