@@ -1,57 +1,14 @@
-// The entries for C and for Rust: each hands its arguments to an entry of the port, and the answer back in a struct with C's layout. A slice crosses
-// as a pointer and a length. New in this port.
+// The entries for C and for Rust: each hands its arguments to an entry of the port, and its answer back. What crosses has C's layout, and a slice
+// crosses as a pointer and a length. New in this port.
 ghost use mathlib.Core.Path.{_≡_};
 ghost use Rattle.kissfft.specs.Fft as ft;
 ghost use Rattle.dct_iv.specs.DctIv as dc;
 ghost use Rattle.analysis.specs.Analysis as an;
 ghost use Rattle.synthesis.specs.Synthesis as sy;
 ghost use Rattle.loudest.specs.Loudest.{heard};
-ghost use Rattle.c_api.specs.Layout.{verdictOf, analysisChannel, analysisCleared, analysisFramed, synthesisChannel, synthesisCleared, synthesisFramed, loudestHeard};
+ghost use Rattle.c_api.specs.Layout.{loudestHeard};
+use config::Verdict;
 use loudest::Loudest;
-
-#[repr(C)]
-pub struct Judged {
-    pub number: u8,
-    pub index: usize,
-}
-
-#[repr(C)]
-pub struct AnalysisChannel {
-    pub config: u8,
-    pub samples: [i16; 300],
-}
-
-#[repr(C)]
-pub struct AnalysisCleared {
-    pub number: u8,
-    pub channel: AnalysisChannel,
-}
-
-#[repr(C)]
-pub struct AnalysisFramed {
-    pub number: u8,
-    pub flag: bool,
-    pub channel: AnalysisChannel,
-}
-
-#[repr(C)]
-pub struct SynthesisChannel {
-    pub config: u8,
-    pub memory: [f32; 300],
-}
-
-#[repr(C)]
-pub struct SynthesisCleared {
-    pub number: u8,
-    pub channel: SynthesisChannel,
-}
-
-#[repr(C)]
-pub struct SynthesisFramed {
-    pub number: u8,
-    pub index: usize,
-    pub channel: SynthesisChannel,
-}
 
 #[repr(C)]
 pub struct LoudestHeard {
@@ -71,133 +28,59 @@ pub extern "C" fn loamscarf_fft(
     im_in: &[f32],
     re_out: &mut [f32],
     im_out: &mut [f32],
-) -> Judged
-    ensures { λ r. ⌜ ft.left (verdictOf r) (now («re_out» .exit)) (now («im_out» .exit)) ≡ ft.answer size inverse (now («re_in» .entry)) (now («im_in» .entry)) (now («re_out» .entry)) (now («im_out» .entry)) ⌝ }
+) -> Verdict
+    ensures { λ r. ⌜ ft.left r (now («re_out» .exit)) (now («im_out» .exit)) ≡ ft.answer size inverse (now («re_in» .entry)) (now («im_in» .entry)) (now («re_out» .entry)) (now («im_out» .entry)) ⌝ }
 {
-    let v = kissfft::fft(size, inverse, re_in, im_in, re_out, im_out);
-    Judged {
-        number: v.number,
-        index: v.index,
-    }
+    kissfft::fft(size, inverse, re_in, im_in, re_out, im_out)
 }
 
 // Entry. The DCT-IV, in place.
 #[no_mangle]
-pub extern "C" fn loamscarf_dct_iv(length: usize, buf: &mut [f32]) -> Judged
-    ensures { λ r. ⌜ dc.left (verdictOf r) (now (buf .exit)) ≡ dc.answer length (now (buf .entry)) ⌝ }
+pub extern "C" fn loamscarf_dct_iv(length: usize, buf: &mut [f32]) -> Verdict
+    ensures { λ r. ⌜ dc.left r (now (buf .exit)) ≡ dc.answer length (now (buf .entry)) ⌝ }
 {
-    let v = dct_iv::dct_iv(length, buf);
-    Judged {
-        number: v.number,
-        index: v.index,
-    }
-}
-
-// A channel, from C's layout.
-fn analysis_in(channel: AnalysisChannel) -> analysis::Channel
-    ensures { λ r. ⌜ r ≡ analysisChannel channel ⌝ }
-{
-    let samples = channel.samples;
-    analysis::Channel {
-        config: channel.config,
-        samples,
-    }
-}
-
-// A channel, in C's layout.
-fn analysis_out(channel: analysis::Channel) -> AnalysisChannel
-    ensures { λ r. ⌜ analysisChannel r ≡ channel ⌝ }
-{
-    let samples = channel.samples;
-    AnalysisChannel {
-        config: channel.config,
-        samples,
-    }
-}
-
-// A channel, from C's layout.
-fn synthesis_in(channel: SynthesisChannel) -> synthesis::Channel
-    ensures { λ r. ⌜ r ≡ synthesisChannel channel ⌝ }
-{
-    let memory = channel.memory;
-    synthesis::Channel {
-        config: channel.config,
-        memory,
-    }
-}
-
-// A channel, in C's layout.
-fn synthesis_out(channel: synthesis::Channel) -> SynthesisChannel
-    ensures { λ r. ⌜ synthesisChannel r ≡ channel ⌝ }
-{
-    let memory = channel.memory;
-    SynthesisChannel {
-        config: channel.config,
-        memory,
-    }
+    dct_iv::dct_iv(length, buf)
 }
 
 // Entry. A fresh analysis channel.
 #[no_mangle]
-pub extern "C" fn loamscarf_analysis_clear(config: u8) -> AnalysisCleared
-    ensures { λ r. ⌜ analysisCleared r ≡ an.cleared config ⌝ }
+pub extern "C" fn loamscarf_analysis_clear(config: u8) -> analysis::Cleared
+    ensures { λ r. ⌜ r ≡ an.cleared config ⌝ }
 {
-    let cleared = analysis::clear(config);
-    let channel = cleared.channel;
-    AnalysisCleared {
-        number: cleared.number,
-        channel: analysis_out(channel),
-    }
+    analysis::clear(config)
 }
 
 // Entry. A frame of samples to lines, energies and the flag.
 #[no_mangle]
 pub extern "C" fn loamscarf_analysis_frame(
-    channel: AnalysisChannel,
+    channel: analysis::Channel,
     input: &[i16],
     lines: &mut [f32],
     energies: &mut [f32],
-) -> AnalysisFramed
-    ensures { λ r. ⌜ an.frames (analysisChannel channel) (an.lent (now (input .entry)) (now (lines .entry)) (now (energies .entry))) ≡ an.outcome (analysisFramed r) (now (lines .exit)) (now (energies .exit)) ⌝ }
+) -> analysis::Framed
+    ensures { λ r. ⌜ an.frames channel (an.lent (now (input .entry)) (now (lines .entry)) (now (energies .entry))) ≡ an.outcome r (now (lines .exit)) (now (energies .exit)) ⌝ }
 {
-    let framed = analysis_in(channel).frame(input, lines, energies);
-    let next = framed.channel;
-    AnalysisFramed {
-        number: framed.number,
-        flag: framed.flag,
-        channel: analysis_out(next),
-    }
+    channel.frame(input, lines, energies)
 }
 
 // Entry. A fresh synthesis channel.
 #[no_mangle]
-pub extern "C" fn loamscarf_synthesis_clear(config: u8) -> SynthesisCleared
-    ensures { λ r. ⌜ synthesisCleared r ≡ sy.cleared config ⌝ }
+pub extern "C" fn loamscarf_synthesis_clear(config: u8) -> synthesis::Cleared
+    ensures { λ r. ⌜ r ≡ sy.cleared config ⌝ }
 {
-    let cleared = synthesis::clear(config);
-    let channel = cleared.channel;
-    SynthesisCleared {
-        number: cleared.number,
-        channel: synthesis_out(channel),
-    }
+    synthesis::clear(config)
 }
 
 // Entry. A frame of lines to samples.
 #[no_mangle]
 pub extern "C" fn loamscarf_synthesis_frame(
-    channel: SynthesisChannel,
+    channel: synthesis::Channel,
     lines: &[f32],
     samples: &mut [f32],
-) -> SynthesisFramed
-    ensures { λ r. ⌜ sy.frames (synthesisChannel channel) (sy.lent (now (lines .entry)) (now (samples .entry))) ≡ sy.outcome (synthesisFramed r) (now (samples .exit)) ⌝ }
+) -> synthesis::Framed
+    ensures { λ r. ⌜ sy.frames channel (sy.lent (now (lines .entry)) (now (samples .entry))) ≡ sy.outcome r (now (samples .exit)) ⌝ }
 {
-    let framed = synthesis_in(channel).frame(lines, samples);
-    let next = framed.channel;
-    SynthesisFramed {
-        number: framed.number,
-        index: framed.index,
-        channel: synthesis_out(next),
-    }
+    channel.frame(lines, samples)
 }
 
 // Entry. The loudest band of some energies.

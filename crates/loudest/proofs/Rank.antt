@@ -14,6 +14,7 @@ use lib.IntN.{pos}
 use lib.Ieee.{Float, nan, inf, fin, lt, up, down}
 use lib.Ieee.Fits.{up-pos, down-pos}
 use borrow.Author.Tests.{eq-eqb, ne-eqb, lt-ltb, eqb-true, ltb-true, ltb-false}
+use Rattle.laws.proofs.Bools.{outcomes}
 use Rattle.laws.specs.Lists.{first}
 use Rattle.laws.specs.Passes.{passes7, ranked}
 use Rattle.laws.proofs.Lists.{first-none}
@@ -21,11 +22,6 @@ use Rattle.laws.proofs.Order.{above, asym, same-not, ranked-7}
 use Rattle.loudest.specs.Loudest.{First, better, best, silent, loud, loudest}
 use Rattle.loudest.specs.declared.Loudest.{Loudest}
 use Rattle.loudest.specs.declared.Loudest.the-variants.{Quiet, Loud}
-
--- a test's two outcomes
-pub outcomes : (b : Bool) → (b ≡ true) ⊎ (b ≡ false)
-outcomes true = inl refl
-outcomes false = inr refl
 
 is-true : {b : Bool} → b ≡ true → T b
 is-true e = subst T (sym e) tt

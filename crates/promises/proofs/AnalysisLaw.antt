@@ -15,7 +15,8 @@ use Rattle.config.specs.Config.{valid, nf, z, nb}
 use Rattle.config.proofs.Sound.{sound}
 use Rattle.analysis_steps.proofs.Buffers.{step-of, past-of-step}
 use Rattle.analysis.specs.declared.Channel.{Channel}
-use Rattle.analysis.specs.Analysis.{Lent, timeBuffer, mdct, linesOf, keptOf, silent, clearing, cleared, number, framed, frames}
+use Rattle.analysis_lines.specs.Lines.{timeBuffer, mdct, linesOf}
+use Rattle.analysis.specs.Analysis.{Lent, keptOf, silent, clearing, cleared, number, framed, frames}
 use Rattle.promises.specs.Sequence.{Demand3}
 use Rattle.promises.specs.AnalysisChannel.{previous, buffer, given, analysis}
 use Rattle.promises.proofs.Zeros.{take-replicate, drop-replicate}

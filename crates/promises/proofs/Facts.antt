@@ -16,7 +16,7 @@ use Rattle.config.specs.Refusals.{accepted, badValue, badEnergies, badEnergy}
 use Rattle.synthesis.specs.Synthesis.{number, index}
 use Rattle.loudest.specs.declared.Loudest.the-variants.{Quiet}
 use Rattle.loudest.specs.Loudest.{First, heard, told, refusal, loudest, loud, best, silent, paper}
-use Rattle.kissfft.proofs.Facts.{plans}
+use Rattle.kf_work.proofs.Facts.{plans}
 use Rattle.analysis_steps.proofs.Facts as steps
 use Rattle.analysis.proofs.Facts as analysis
 use Rattle.synthesis_steps.proofs.Small.{small}

@@ -15,9 +15,10 @@ use Rattle.laws.proofs.Lists.{length-tab, take-tab, tab-at}
 use Rattle.config.specs.Config.{valid, nf, z, ne}
 use Rattle.config.proofs.Sound.{sound}
 use Rattle.synthesis.specs.declared.Channel.{Channel}
-use Rattle.synthesis_steps.specs.Places.{zero32}
+use Rattle.laws.specs.Numbers.{zero32}
 use Rattle.synthesis.proofs.Next.{length-memoryOf, last-samples}
-use Rattle.synthesis.specs.Synthesis.{Lent, Given, placesOf, samplesOf, memoryOf, keptOf, silent, clearing, cleared, number, framed, frames}
+use Rattle.synthesis_samples.specs.Samples.{placesOf, samplesOf, memoryOf}
+use Rattle.synthesis.specs.Synthesis.{Lent, Given, keptOf, silent, clearing, cleared, number, framed, frames}
 use Rattle.promises.specs.Sequence.{accepts}
 use Rattle.promises.specs.SynthesisChannel.{memory, synthesis, last, SynthesisDemand3}
 use Rattle.promises.proofs.Zeros.{take-replicate}

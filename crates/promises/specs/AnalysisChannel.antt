@@ -9,7 +9,8 @@ use lib.Ieee.{Float}
 use Rattle.config.specs.Config.{nf, z}
 use Rattle.config.specs.Refusals as refusals
 use Rattle.analysis.specs.declared.Channel.{Channel}
-use Rattle.analysis.specs.Analysis.{Lent, Given, mdct, energiesOf, flagOf, number, cleared, frames}
+use Rattle.analysis_lines.specs.Lines.{mdct}
+use Rattle.analysis.specs.Analysis.{Lent, Given, energiesOf, flagOf, number, cleared, frames}
 use Rattle.promises.specs.Sequence.{Kind}
 
 -- the frame before; where there was none, a frame of zero samples

@@ -9,12 +9,13 @@ use lib.ListN.{getD, replicate}
 use lib.Ieee.{Float, binary32, ofInt, ofBits, add, nan}
 use Rattle.config.specs.Refusals.{accepted, badValue}
 use Rattle.laws.specs.Passes.{passes6}
-use Rattle.kissfft.specs.Kissfft.{plan}
+use Rattle.kf_work.specs.Work.{plan}
 use Rattle.analysis_steps.specs.Buffer.{bufferStep}
 use Rattle.analysis_steps.specs.Fold.{folded}
 use Rattle.analysis.specs.Analysis.{flagOf}
 use Rattle.analysis.specs.Facts.{bands}
-use Rattle.synthesis_steps.specs.Places.{zero32, unfolded, output, remains}
+use Rattle.laws.specs.Numbers.{zero32}
+use Rattle.synthesis_steps.specs.Places.{unfolded, output, remains}
 use Rattle.synthesis.specs.Synthesis.{Lent, number, index}
 use Rattle.loudest.specs.Loudest.{First, heard, paper}
 

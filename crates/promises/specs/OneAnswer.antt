@@ -9,11 +9,13 @@ use lib.ListN.{length, getD, drop}
 use lib.Ieee.{Float, neg}
 use Rattle.laws.specs.Lists.{tab, first}
 use Rattle.laws.specs.Passes.{passes6, passes7}
+use Rattle.complex.specs.declared.Complex.{Complex}
 use Rattle.complex.specs.Complex.{parts, plus, minus, times, scale}
 use Rattle.config.specs.Config as config
 use Rattle.windows.specs.Windows.{window}
-use Rattle.twiddles.specs.Twiddles.{fftRe, fftIm, dctRe, dctIm, gain}
-use Rattle.kissfft.specs.declared.Verdict.{Verdict}
+use Rattle.twiddles.specs.Twiddles.{fftTable, dctTable, gain}
+use Rattle.columns.specs.Column as column
+use Rattle.config.specs.declared.Verdict.{Verdict}
 use Rattle.kissfft.specs.Fft as kissfft
 use Rattle.dct_iv.specs.DctIv as dct
 use Rattle.analysis.specs.declared.Channel as analysisChannel
@@ -23,16 +25,12 @@ use Rattle.synthesis.specs.declared.Channel as synthesisChannel
 use Rattle.synthesis.specs.declared.Framed as synthesisFramed
 use Rattle.synthesis.specs.Synthesis as synthesis
 use Rattle.loudest.specs.Loudest.{heard}
-use Rattle.frame_file.specs.File.{lmf, headerOf, headerNumber, frameBytes, recordOf, recordNumber}
+use Rattle.frame_file.specs.File.{signed, lmf, headerOf, headerNumber, frameBytes, recordOf, recordNumber}
 use Rattle.listing.specs.declared.Lister.{Lister}
 use Rattle.listing.specs.Steps.{opening, step}
 use Rattle.call_log.specs.Log as log
+use Rattle.call_text.specs.Page as pages
 use Rattle.c_api.specs.Layout as layout
-use Rattle.c_api.specs.declared.Judged as judged
-use Rattle.c_api.specs.declared.AnalysisCleared as cAnalysisCleared
-use Rattle.c_api.specs.declared.AnalysisFramed as cAnalysisFramed
-use Rattle.c_api.specs.declared.SynthesisCleared as cSynthesisCleared
-use Rattle.c_api.specs.declared.SynthesisFramed as cSynthesisFramed
 
 -- the statement says that the answer r is f of the arguments
 abbrev pub Once : {A B : Type 0} → (A → B) → Type 0
@@ -68,14 +66,17 @@ pub record OneAnswer : Type 0 where
   pub is-band-count : Once (config.among config.bandCounts)
   -- windows: w_n60_7p5ms, .. , w_n480_10ms are the windows of configurations 0 to 9
   pub windows : Once window
-  -- twiddles: fft_re_30, .. , dct_im_240 are those of sizes 30 to 240
-  pub fft-re : Once fftRe
-  pub fft-im : Once fftIm
-  pub dct-re : Once dctRe
-  pub dct-im : Once dctIm
+  -- twiddles: fft_30, .. , fft_240 and dct_30, .. , dct_240 are those of sizes 30 to 240
+  pub fft-tables : Once fftTable
+  pub dct-tables : Once dctTable
   pub gain : Once gain
   -- the slice at exit
   pub negate : Once (map neg)
+  -- columns
+  pub two : Once (λ (s : List Complex). column.of2 (column.two (column.col s)))
+  pub three : Once2 (λ (y : Complex) (s : List Complex). column.of3 (column.three y (column.col s)))
+  pub four : Once2 (λ (inverse : Bool) (s : List Complex). column.of4 (column.four inverse (column.col s)))
+  pub five : (ya : Complex) → Once2 (λ (yb : Complex) (s : List Complex). column.of5 (column.five ya yb (column.col s)))
   -- kissfft: the return, and both lent slices at exit
   pub fft : (size : ℕ) (inverse : Bool) (x y re im : List Float) (r s : Verdict) (a b c d : List Float)
       → kissfft.left r a b ≡ kissfft.answer size inverse x y re im → kissfft.left s c d ≡ kissfft.answer size inverse x y re im → (r ≡ s) × (a ≡ c) × (b ≡ d)
@@ -98,6 +99,7 @@ pub record OneAnswer : Type 0 where
   pub header-number : Once headerNumber
   pub read-record : Once2 recordOf
   pub record-number : Once recordNumber
+  pub sample : Once signed
   -- listing
   pub opened : Once opening
   pub step : Once2 step
@@ -116,15 +118,7 @@ pub record OneAnswer : Type 0 where
   pub read-log-header : Once log.headerOf
   pub log-header-number : Once log.headerNumber
   pub call-taken : Once log.callTaken
-  -- c_api: the same answers in C's layout
-  pub c-fft : (size : ℕ) (inverse : Bool) (x y re im : List Float) (r s : judged.Judged) (a b c d : List Float)
-      → kissfft.left (layout.verdictOf r) a b ≡ kissfft.answer size inverse x y re im → kissfft.left (layout.verdictOf s) c d ≡ kissfft.answer size inverse x y re im → (r ≡ s) × (a ≡ c) × (b ≡ d)
-  pub c-dct-iv : (n : ℕ) (buf : List Float) (r s : judged.Judged) (a b : List Float)
-      → dct.left (layout.verdictOf r) a ≡ dct.answer n buf → dct.left (layout.verdictOf s) b ≡ dct.answer n buf → (r ≡ s) × (a ≡ b)
-  pub c-analysis-clear : (c : ℕ) (r s : cAnalysisCleared.AnalysisCleared) → layout.analysisCleared r ≡ analysis.cleared c → layout.analysisCleared s ≡ analysis.cleared c → r ≡ s
-  pub c-analysis-frame : (self : analysisChannel.Channel) (x : analysis.Lent) (r s : cAnalysisFramed.AnalysisFramed) (l m e d : List Float)
-      → analysis.frames self x ≡ analysis.outcome (layout.analysisFramed r) l e → analysis.frames self x ≡ analysis.outcome (layout.analysisFramed s) m d → (r ≡ s) × (l ≡ m) × (e ≡ d)
-  pub c-synthesis-clear : (c : ℕ) (r s : cSynthesisCleared.SynthesisCleared) → layout.synthesisCleared r ≡ synthesis.cleared c → layout.synthesisCleared s ≡ synthesis.cleared c → r ≡ s
-  pub c-synthesis-frame : (self : synthesisChannel.Channel) (x : synthesis.Lent) (r s : cSynthesisFramed.SynthesisFramed) (l m : List Float)
-      → synthesis.frames self x ≡ synthesis.outcome (layout.synthesisFramed r) l → synthesis.frames self x ≡ synthesis.outcome (layout.synthesisFramed s) m → (r ≡ s) × (l ≡ m)
+  -- call_text: the buffer at exit, and the place returned, of put_call, put_show and put_last
+  pub put-text : (p : pages.Page) (text a b : List ℕ) (r s : ℕ) → pages.page a r ≡ pages.written p text → pages.page b s ≡ pages.written p text → (a ≡ b) × (r ≡ s)
+  -- c_api: its other entries have the statements of fft, dct-iv, analysis-clear, analysis-frame, synthesis-clear and synthesis-frame
   pub c-loudest-band : Once (λ (l : List Float). layout.loudestHeard (heard l))

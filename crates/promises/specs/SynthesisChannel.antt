@@ -9,8 +9,9 @@ use lib.Ieee.{Float}
 use Rattle.config.specs.Config.{nf, z}
 use Rattle.config.specs.Refusals as refusals
 use Rattle.synthesis.specs.declared.Channel.{Channel}
-use Rattle.synthesis_steps.specs.Places.{zero32}
-use Rattle.synthesis.specs.Synthesis.{Lent, Given, placesOf, samplesOf, memoryOf, number, index, cleared, frames}
+use Rattle.laws.specs.Numbers.{zero32}
+use Rattle.synthesis_samples.specs.Samples.{placesOf, samplesOf, memoryOf}
+use Rattle.synthesis.specs.Synthesis.{Lent, Given, number, index, cleared, frames}
 use Rattle.promises.specs.Sequence.{Kind, accepts, Demand3}
 
 -- what the frame before has left (places nf + z to 2 nf - 1 of its own); where there was none, a memory of positive zeros
