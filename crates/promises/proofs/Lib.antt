@@ -4,3 +4,4 @@ pub mod AnalysisLaw
 pub mod SynthesisLaw
 pub mod Facts
 pub mod OneAnswer
+pub mod Flags

@@ -3,3 +3,4 @@ pub mod AnalysisChannel
 pub mod SynthesisChannel
 pub mod Facts
 pub mod OneAnswer
+pub mod Flags
