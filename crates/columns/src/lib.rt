@@ -61,7 +61,7 @@ pub fn two(a: Complex, t: Complex) -> Out2
     }
 }
 
-// Entry. Radix 3, where e is the imaginary part of the twiddle of a third of a turn.
+// Entry. Radix 3, where y is the twiddle of a third of a turn.
 pub fn three(a: Complex, s1: Complex, s2: Complex, y: Complex) -> Out3
     ensures { λ r. ⌜ r ≡ of3 (three y (col (a ∷ s1 ∷ s2 ∷ []))) ⌝ }
 {

@@ -43,6 +43,7 @@ unfoldable pub number : ℕ → List Float → ℕ
 number n buf =
     cond (among dctLengths n) (cond (eqb (length buf) n) (cond (ltb (first passes6 buf) n) badValue accepted) badInput) badSize
 
+-- the number, and the index that goes with it: "the index is 0 but for 6 and 7"
 unfoldable pub verdict : ℕ → List Float → Verdict
 verdict n buf = verdictOf (number n buf) (first passes6 buf)
 

@@ -36,6 +36,7 @@ use twiddles::fft_120;
 use twiddles::fft_160;
 use twiddles::fft_180;
 use twiddles::fft_240;
+
 // The points: twiddle n times the value at 2n and the value as far from the end.
 fn turn_in(buf: &[f32], dr: &[f32], di: &[f32], xr: &mut [f32], xi: &mut [f32])
     requires { ⌜ (length (now buf) ≡ 2 * length (now xr)) × (length (now dr) ≡ length (now xr)) × (length (now di) ≡ length (now xr)) × (length (now xi) ≡ length (now xr)) ⌝ }

@@ -27,6 +27,7 @@ number size x y c d =
     badInput)
     badSize
 
+-- the number, and the index that goes with it: "the index is 0 but for 6 and 7"
 unfoldable pub verdict : ℕ → List Float → List Float → ℕ → ℕ → Verdict
 verdict size x y c d = verdictOf (number size x y c d) (firstBad x y)
 
