@@ -3,5 +3,5 @@ pub mod Zeros
 pub mod AnalysisLaw
 pub mod SynthesisLaw
 pub mod Facts
-pub mod OneAnswer
+pub mod Entries
 pub mod Flags

@@ -2,5 +2,5 @@ pub mod Sequence
 pub mod AnalysisChannel
 pub mod SynthesisChannel
 pub mod Facts
-pub mod OneAnswer
+pub mod Entries
 pub mod Flags
