@@ -1,9 +1,11 @@
-// Lists the frame file on standard input to standard output. The work is listing's; here is only reading and writing, of which no contract can
-// tell what is read or written.
+// Lists the frame file on standard input to standard output. The work is listing's; here is only reading and writing. No contract can tell what is read, nor that
+// a write happened: these functions state what they make of it, and the gate runs the program on inputs and outputs that come and go in pieces, or fail.
 ghost use mathlib.Core.Path.{_≡_};
 ghost use Prim.Native.Nat.{_+_, _≤_};
-ghost use lib.ListN.{length};
-ghost use Rattle.io.specs.Counts.{Counts};
+ghost use lib.ListN.{length, take};
+ghost use Rattle.listing.specs.Steps as steps;
+ghost use Rattle.lmf_list.specs.Reading.{brought, Came, Filled, Next};
+ghost use Rattle.lmf_list.specs.Writing.{Room, Put};
 use listing::Lister;
 use listing::Stepped;
 use listing::Text;
@@ -21,48 +23,56 @@ struct Output {
     ok: bool,
 }
 
-// A step of the listing, and whether no read failed on the way to it.
+// A step of the listing, and what was read for it.
 struct Turn {
     stepped: Stepped,
-    ok: bool,
+    input: Input,
 }
 
-// Reads once, to the places of buf from `at` on.
-fn read_more(buf: &mut [u8], at: usize) -> Input
-    requires { ⌜ at ≤ length (now buf) ⌝ }
-    ensures { λ r. ⌜ r .len ≤ length (now (buf .exit)) ⌝ }
+// What a read has brought that put bytes to the places from `at` to `end`, or failed.
+fn brought(at: usize, end: usize, failed: bool) -> Input
+    ensures { λ r. ⌜ r ≡ brought at end failed ⌝ }
 {
-    let got = libc::read(libc::STDIN_FILENO, &mut buf[at..]);
-    if got < 0 {
-        io::write_all(libc::STDERR_FILENO, b"read failed\n");
+    if failed {
         return Input {
             len: at,
             more: false,
             ok: false,
         };
     }
-    let n = io::count(got, &buf[at..]);
     Input {
-        len: at + n,
-        more: n > 0,
+        len: end,
+        more: at < end,
         ok: true,
     }
 }
 
+// Reads once, to the places of buf from `at` on.
+fn read_more(buf: &mut [u8], at: usize) -> Input
+    requires { ⌜ at ≤ length (now buf) ⌝ }
+    ensures { λ r. ⌜ Came (now (buf .entry)) at r (now (buf .exit)) ⌝ }
+{
+    let got = libc::read(libc::STDIN_FILENO, &mut buf[at..]);
+    let failed = got < 0;
+    if failed {
+        io::write_all(libc::STDERR_FILENO, b"read failed\n");
+    }
+    let n = io::count(got, &buf[at..]);
+    brought(at, at + n, failed)
+}
+
 // Reads until buf is full, the input ends or a read fails, however small the pieces are that come.
 fn fill(buf: &mut [u8]) -> Input
-    ensures { λ r. ⌜ Counts (r .len) (now (buf .exit)) ⌝ }
+    ensures { λ r. ⌜ Filled r (now (buf .exit)) ⌝ }
 {
     let mut input = Input {
         len: 0,
         more: true,
         ok: true,
     };
-    let mut turns = u64::MAX;
-    while turns > 0 && input.more && input.len < buf.len() {
+    while input.more && input.len < buf.len() {
         let at = input.len;
         input = read_more(buf, at);
-        turns -= 1;
     }
     input
 }
@@ -78,10 +88,10 @@ fn flush(out: &[u8], n: usize) -> bool
     ok
 }
 
-// Makes room for a line after the first n bytes.
+// Makes room for a line after the first n bytes, which go out where there is too little.
 fn room(out: &[u8], n: usize) -> Output
-    requires { ⌜ (64 ≤ length (now out)) × (n ≤ length (now out)) ⌝ }
-    ensures { λ r. ⌜ r .len + 64 ≤ length (now (out .entry)) ⌝ }
+    requires { ⌜ n ≤ length (now out) ⌝ }
+    ensures { λ r. ⌜ Room (length (now (out .entry))) n r ⌝ }
 {
     if out.len() - n < 64 {
         let ok = flush(out, n);
@@ -90,10 +100,10 @@ fn room(out: &[u8], n: usize) -> Output
     Output { len: n, ok: true }
 }
 
-// Puts a line after the first n bytes, which go out first where it finds no room.
+// Puts a line after the first n bytes.
 fn emit(out: &mut [u8], n: usize, text: Text) -> Output
     requires { ⌜ (64 ≤ length (now out)) × (n ≤ length (now out)) ⌝ }
-    ensures { λ r. ⌜ r .len ≤ length (now (out .exit)) ⌝ }
+    ensures { λ r. ⌜ Put (now (out .entry)) n text r (now (out .exit)) ⌝ }
 {
     let ready = room(out, n);
     let at = ready.len;
@@ -101,44 +111,46 @@ fn emit(out: &mut [u8], n: usize, text: Text) -> Output
     Output { len, ok: ready.ok }
 }
 
-// Reads the header, as much as there is of it.
-fn open(header: &mut [u8]) -> Turn {
+// The header's step, on as much as there is of it.
+fn open(header: &mut [u8]) -> Turn
+    ensures { λ r. ⌜ (r .stepped ≡ steps.opening (take (r .input .len) (now (header .exit)))) × Filled (r .input) (now (header .exit)) ⌝ }
+{
     let input = fill(header);
     let got = input.len;
     let stepped = listing::open(&header[..got]);
-    Turn {
-        stepped,
-        ok: input.ok,
-    }
+    Turn { stepped, input }
 }
 
-// Reads a record, as much as there is of it.
-fn step(lister: Lister, record: &mut [u8]) -> Turn {
-    let input = fill(record);
+// A record's step, on as much as there is of it.
+fn step(lister: Lister, frame: &mut [u8]) -> Turn
+    ensures { λ r. ⌜ (r .stepped ≡ steps.step lister (take (r .input .len) (now (frame .exit)))) × Filled (r .input) (now (frame .exit)) ⌝ }
+{
+    let input = fill(frame);
     let got = input.len;
-    let stepped = lister.step(&record[..got]);
-    Turn {
-        stepped,
-        ok: input.ok,
-    }
+    let stepped = lister.step(&frame[..got]);
+    Turn { stepped, input }
 }
 
-fn next(lister: Lister) -> Turn {
-    let mut record = [0u8; 960]; // the longest frame's bytes
+// The next record's step, on no more than a frame's bytes.
+fn next(lister: Lister, room: &mut [u8]) -> Turn
+    requires { ⌜ 960 ≤ length (now room) ⌝ }
+    ensures { λ r. ⌜ Next lister r (now (room .exit)) ⌝ }
+{
     let want = lister.wanted();
-    step(lister, &mut record[..want])
+    step(lister, &mut room[..want])
 }
 
 // Line after line, to the last. A proved loop has to end, and nothing says that a file does: it counts its turns down.
-fn lines(out: &mut [u8]) -> usize
+fn lines(out: &mut [u8]) -> Output
     requires { ⌜ 64 ≤ length (now out) ⌝ }
-    ensures { λ r. ⌜ r ≤ length (now (out .exit)) ⌝ }
+    ensures { λ r. ⌜ r .len ≤ length (now (out .exit)) ⌝ }
 {
     let mut header = [0u8; 6];
+    let mut room = [0u8; 960]; // the longest frame's bytes
     let mut turn = open(&mut header);
     let mut output = Output { len: 0, ok: true };
     let mut turns = u64::MAX;
-    while turns > 0 && turn.ok && output.ok {
+    while turns > 0 && turn.input.ok && output.ok {
         let stepped = turn.stepped;
         let text = stepped.text;
         let n = output.len;
@@ -147,15 +159,18 @@ fn lines(out: &mut [u8]) -> usize
             break;
         }
         let lister = stepped.lister;
-        turn = next(lister);
+        turn = next(lister, &mut room);
         turns -= 1;
     }
-    output.len
+    output
 }
 
-// A read that fails is told on standard error and ends the listing with no last line; a write that fails is told there too.
+// A read that fails is told on standard error and ends the listing with no last line; after a write that failed, which is told there too, nothing more is written.
 fn main() {
     let mut out = io::buffer();
-    let n = lines(&mut out);
-    flush(&out, n);
+    let output = lines(&mut out);
+    if output.ok {
+        let n = output.len;
+        flush(&out, n);
+    }
 }

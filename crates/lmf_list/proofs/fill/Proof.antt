@@ -1,17 +1,19 @@
--- `lmf_list::fill` meets its contract. The invariant: what is read is a part of the slice, whose length stays. Assumes nothing.
-use mathlib.Core.Path.{_≡_}
+-- `lmf_list::fill` meets its contract. The invariant: what is read is a part of the slice, whose length stays. Each read brings something, or is the last. Assumes nothing.
 use Prim.Native.Nat.{_≤_}
+use mathlib.Core.Path.{_≡_, sym, _∙_}
 use native.Mathlib.Omega.{arith}
-use lib.ListN.{length, length-take}
+use lib.ListN.{length}
+use borrow.Author.Tests.{ltb-true, ltb-false}
 use borrow.Author.Needs.{needs}
+use Rattle.lmf_list.proofs.Reading.{untrue, left, less, filled}
 use Rattle.lmf_list.proofs.fill.Statement.{statement}
 use Rattle.lmf_list.proofs.fill.Tie as tie
 
 abbrev Inv-loop : tie.InvT-loop
-Inv-loop buf₀ input₀ turns₀ buf input turns = (length buf ≡ length buf₀) × (input .len ≤ length buf)
+Inv-loop buf₀ input₀ buf input = (length buf ≡ length buf₀) × (input .len ≤ length buf)
 
 abbrev μ-loop : tie.MeasureT-loop
-μ-loop buf₀ input₀ turns₀ buf input turns = turns
+μ-loop buf₀ input₀ buf input = left (length buf₀) input
 
 loop-holds : tie.Need-loop-holds Inv-loop μ-loop
 loop-holds c = search needs
@@ -19,32 +21,27 @@ loop-holds c = search needs
 read-more-requires : tie.Need-read-more-requires Inv-loop μ-loop
 read-more-requires c κs = search needs
 
-sub-turns : tie.Need-sub-turns Inv-loop μ-loop
-sub-turns c = search needs
+loop-again : tie.Need-loop-again Inv-loop μ-loop
+loop-again c = (omega arith, c .before .before .read-more .ensures .within)
 
 loop-less : tie.Need-loop-less Inv-loop μ-loop
-loop-less c = search needs
-
-loop-again : tie.Need-loop-again Inv-loop μ-loop
-loop-again c = search needs
+loop-less c =
+    let l = c .before .before .before .before .before .before .before .loop in
+    let r = c .before .before .read-more in
+    let room = ltb-true (l .input .len) (length (l .buf)) (c .before .before .before .before .if1 .taken) in
+    less _ (l .input) (r .result) (c .before .before .before .before .before .before .loop-test .taken) (omega (arith, room, l .inv .0)) (r .ensures .from) (r .ensures .more)
 
 same-length : tie.Need-same-length Inv-loop μ-loop
 same-length c = search needs
 
 returns : tie.Need-returns Inv-loop μ-loop
-returns c = (search needs, simp length-take (omega arith))
+returns c = filled _ _ (c .before .before .before .loop .inv .1) (λ q. ltb-false _ _ (c .if1 .left))
 
 same-length-2 : tie.Need-same-length-2 Inv-loop μ-loop
 same-length-2 c = search needs
 
 returns-2 : tie.Need-returns-2 Inv-loop μ-loop
-returns-2 c = (search needs, simp length-take (omega arith))
-
-same-length-3 : tie.Need-same-length-3 Inv-loop μ-loop
-same-length-3 c = search needs
-
-returns-3 : tie.Need-returns-3 Inv-loop μ-loop
-returns-3 c = (search needs, simp length-take (omega arith))
+returns-2 c = filled _ _ (c .before .loop .inv .1) (λ q. untrue (sym q ∙ c .loop-test .left))
 
 pub fill-spec : {M : Type 1} → statement M
 fill-spec =
@@ -54,12 +51,9 @@ fill-spec =
     μ-loop
     loop-holds
     read-more-requires
-    sub-turns
     loop-less
     loop-again
     same-length
     returns
     same-length-2
-    returns-2
-    same-length-3
-    returns-3)
+    returns-2)

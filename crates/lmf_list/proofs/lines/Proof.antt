@@ -1,16 +1,17 @@
 -- `lmf_list::lines` meets its contract. The invariant: what waits is a part of the slice, whose length stays. Assumes nothing.
-use mathlib.Core.Path.{_≡_}
 use Prim.Native.Nat.{_≤_}
+use mathlib.Core.Path.{_≡_}
 use lib.ListN.{length}
 use borrow.Author.Needs.{needs}
 use Rattle.lmf_list.proofs.lines.Statement.{statement}
 use Rattle.lmf_list.proofs.lines.Tie as tie
 
 abbrev Inv-loop : tie.InvT-loop
-Inv-loop out₀ turn₀ output₀ turns₀ out turn output turns = (length out ≡ length out₀) × (64 ≤ length out₀) × (output .len ≤ length out)
+Inv-loop out₀ room₀ turn₀ output₀ turns₀ out room turn output turns =
+    (length out ≡ length out₀) × (64 ≤ length out₀) × (output .len ≤ length out) × (length room ≡ 960)
 
 abbrev μ-loop : tie.MeasureT-loop
-μ-loop out₀ turn₀ output₀ turns₀ out turn output turns = turns
+μ-loop out₀ room₀ turn₀ output₀ turns₀ out room turn output turns = turns
 
 slice-aggregate-open : tie.Need-slice-aggregate-open Inv-loop μ-loop
 slice-aggregate-open c = search needs
@@ -23,6 +24,9 @@ loop-holds c = search needs
 
 emit-requires : tie.Need-emit-requires Inv-loop μ-loop
 emit-requires c κs = search needs
+
+slice-aggregate-next : tie.Need-slice-aggregate-next Inv-loop μ-loop
+slice-aggregate-next c = search needs
 
 next-requires : tie.Need-next-requires Inv-loop μ-loop
 next-requires c κs = search needs
@@ -70,6 +74,7 @@ lines-spec =
     open-requires
     loop-holds
     emit-requires
+    slice-aggregate-next
     next-requires
     sub-turns
     loop-less

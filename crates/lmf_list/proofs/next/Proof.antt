@@ -1,28 +1,43 @@
--- `lmf_list::next` is safe: no frame is longer than its array. Assumes nothing.
-use mathlib.Core.Path.{sym}
+-- `lmf_list::next` meets its contract: no frame is longer than 960 bytes, and what was read stands at the front of the room. Assumes nothing.
+use mathlib.Core.Path.{_≡_, sym, _∙_}
 use native.Mathlib.Omega.{arith}
+use lib.ListN.{length}
 use lib.Seq.{length-take-le}
 use borrow.Author.Needs.{needs}
 use Rattle.listing.proofs.Found.{nf-most}
+use Rattle.lmf_list.proofs.Reading.{next-step}
 use Rattle.lmf_list.proofs.next.Statement.{statement}
 use Rattle.lmf_list.proofs.next.Tie as tie
 
 wanted-requires : tie.Need-wanted-requires
 wanted-requires c κs = search needs
 
-array-borrow-prefix-record : tie.Need-array-borrow-prefix-record
-array-borrow-prefix-record c = omega (arith, c .wanted .ensures, nf-most (c .before .args .lister .channel .config))
+slice-relend-prefix-step : tie.Need-slice-relend-prefix-step
+slice-relend-prefix-step c = omega (arith, c .wanted .ensures, nf-most (c .before .before .args .lister .channel .config), c .before .before .pre)
 
 slice-aggregate-step : tie.Need-slice-aggregate-step
-slice-aggregate-step c = sym (length-take-le _ _ (array-borrow-prefix-record (c .before)))
+slice-aggregate-step c = sym (length-take-le _ _ (slice-relend-prefix-step (c .before)))
 
 step-requires : tie.Need-step-requires
 step-requires c κs = search needs
 
+same-length : tie.Need-same-length
+same-length c = search needs
+
 returns : tie.Need-returns
-returns c = search needs
+returns c =
+    let want = c .before .before .before .before .wanted .result in
+    let l = length-take-le want (c .before .before .before .before .before .before .args .room .now) (slice-relend-prefix-step (c .before .before .before .before)) in
+    let back : length (c .before .before .step .last .1 .0) ≡ want = omega (arith, c .before .room .given, l) in
+    next-step _ _ _ _ (back ∙ c .before .before .before .before .wanted .ensures) (c .before .before .step .ensures)
 
 pub next-spec : {M : Type 1} → statement M
 next-spec =
     tie.close
-    (tie.spec wanted-requires array-borrow-prefix-record slice-aggregate-step step-requires returns)
+    (tie.spec
+    wanted-requires
+    slice-relend-prefix-step
+    slice-aggregate-step
+    step-requires
+    same-length
+    returns)
