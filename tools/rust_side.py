@@ -45,7 +45,7 @@ def sources():
     for folder in (given / 'src', given):
         if (folder / 'common' / 'kissfft.rs').is_file():
             return folder
-    raise Missing(f'no sources of lc3-codec at {given} (set RUST_SRC to their folder)')
+    raise Missing(f'no sources of lc3-codec at {given}; RUST_SRC is to name their folder')
 
 
 def windows_module():
