@@ -1,35 +1,32 @@
 """Both sides of the bench, as commands that read a log of calls and print their answers: the port's `replay` and the Rust's oracle."""
 import contextlib
-import platform
-import shutil
 import subprocess
 import tempfile
 
 import answers
+import kit
 import rust_side
 from rust_side import Missing
 
 REPLAY = rust_side.ROOT / 'target' / 'bin' / 'replay'
 
 
+class NotBuilt(Missing):
+    """The port's side cannot run, which has nothing to do with the Rust."""
+
+
 class Broken(Exception):
     """A side that did not answer a log as it should."""
-
-
-def x86_command(program):
-    """How to run a program for x86-64: as it is, or under qemu on another processor."""
-    if platform.machine() == 'x86_64':
-        return [str(program)]
-    if shutil.which('qemu-x86_64') is None:
-        raise Missing('no qemu-x86_64 on the path, which runs programs for x86-64 here (Debian: qemu-user)')
-    return ['qemu-x86_64', '-L', '/usr/x86_64-linux-gnu', str(program)]
 
 
 def replay():
     """The port's side."""
     if not REPLAY.is_file():
-        raise Missing('no target/bin/replay (`rt check replay` makes it)')
-    return x86_command(REPLAY)
+        raise NotBuilt('no target/bin/replay (`rt check replay` makes it)')
+    try:
+        return kit.command(REPLAY)
+    except kit.NoKit as why:
+        raise NotBuilt(why) from None
 
 
 def oracle():

@@ -1,5 +1,6 @@
 // The windows of the configurations as bits, and the reading of one entry.
-// Ported from src/tables/mdct_windows.rs of lc3-codec 0.2.0, and changed: bits in place of decimals, and functions in place of constants.
+// The bits are liblc3's, as data/README.md says; names and lengths are those that lc3-codec 0.2.0 has in src/tables/mdct_windows.rs, with functions in
+// place of constants.
 ghost use mathlib.Core.Path.{_≡_};
 ghost use Prim.Native.Nat.{_<_};
 ghost use lib.ListN.{length, getD};
