@@ -13,7 +13,6 @@ use Rattle.kf_work.specs.Work.{plan}
 use Rattle.analysis_steps.specs.Buffer.{bufferStep}
 use Rattle.analysis_steps.specs.Fold.{folded}
 use Rattle.analysis.specs.Analysis.{flagOf}
-use Rattle.analysis.specs.Facts.{bands}
 use Rattle.laws.specs.Numbers.{zero32}
 use Rattle.synthesis_steps.specs.Places.{unfolded, output, remains}
 use Rattle.synthesis.specs.Synthesis.{Lent, number, index}
@@ -22,6 +21,10 @@ use Rattle.loudest.specs.Loudest.{First, heard, paper}
 -- a whole number as an f32
 abbrev pub whole : ℤ → Float
 whole n = ofInt binary32 n
+
+-- 64 energies, zero but band 0 = 1.0 and band 62 = the value whose bits are b
+abbrev pub bands : ℕ → List Float
+bands b = ofBits binary32 0x3f800000 ∷ replicate 61 zero32 ++ (ofBits binary32 b ∷ zero32 ∷ [])
 
 -- a synthesis call at configuration 0: 60 lines, zero but line 7 with the bits b
 abbrev pub loud7 : ℕ → Lent
