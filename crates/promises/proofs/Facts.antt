@@ -26,7 +26,7 @@ use Rattle.loudest.proofs.Rank.{best-first, ranked-all}
 use Rattle.promises.specs.Facts.{Facts}
 
 -- the band told is the scan's
-p12-any : (l : List Float) (b : ℕ) (e : Float) → paper (heard l .loudest) .values ≡ some (b, e) → First l b × (e ≡ getD l b nan)
+p12-any : (l : List Float) (b : ℕ) (e : Float) → paper (heard l) .values ≡ some (b, e) → First l b × (e ≡ getD l b nan)
 unfolding heard loudest
 p12-any l b e = go (among bandCounts (length l)) (eqb (first passes7 l) (length l)) (eqb (first silent l) (length l)) refl refl
   where
@@ -39,7 +39,7 @@ p12-any l b e = go (among bandCounts (length l)) (eqb (first passes7 l) (length 
         (subst (First l) i f, sym (ap (λ (x : ℕ × Float). x .1) q) ∙ ap (λ (k : ℕ). getD l k nan) i)
 
     go : (p q r : Bool) → among bandCounts (length l) ≡ p → eqb (first passes7 l) (length l) ≡ q
-        → paper (cond p (cond q (told (cond r Quiet (loud l scanned))) (refusal badEnergy (first passes7 l))) (refusal badEnergies 0) .loudest) .values ≡ some (b, e)
+        → paper (cond p (cond q (told (cond r Quiet (loud l scanned))) (refusal badEnergy (first passes7 l))) (refusal badEnergies 0)) .values ≡ some (b, e)
         → First l b × (e ≡ getD l b nan)
     go true true true s t h = absurd (Option·none-ne-some (b, e) h)
     go true true false s t h =

@@ -64,5 +64,5 @@ pub record Facts : Type 0 where
   pub p11-refused : number 0 (loud7 0x5d800001) ≡ badValue
   pub p11-index : index badValue (loud7 0x5d800001) ≡ 7
   -- P12 two equal greatest energies: the lower band. Bands 7 and 20 with 2.0; and of any energies, the band told is the first with the greatest.
-  pub p12 : paper (heard (twins 0x40000000) .loudest) ≡ record { number = accepted; values = some (7, ofBits binary32 0x40000000) }
-  pub p12-any : (l : List Float) (b : ℕ) (e : Float) → paper (heard l .loudest) .values ≡ some (b, e) → First l b × (e ≡ getD l b nan)
+  pub p12 : paper (heard (twins 0x40000000)) ≡ record { number = accepted; index = 0; values = some (7, ofBits binary32 0x40000000) }
+  pub p12-any : (l : List Float) (b : ℕ) (e : Float) → paper (heard l) .values ≡ some (b, e) → First l b × (e ≡ getD l b nan)

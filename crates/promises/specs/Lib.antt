@@ -4,3 +4,4 @@ pub mod SynthesisChannel
 pub mod Facts
 pub mod OneAnswer
 pub mod Flags
+pub mod Papers
