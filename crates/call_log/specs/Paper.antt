@@ -7,7 +7,7 @@ use Rattle.call_log.specs.declared.Taken.{Taken}
 use Rattle.call_log.specs.declared.Taken.the-variants.{Whole, Stopped}
 use Rattle.call_log.specs.Log.{headerNumber}
 
--- no case has values
+-- a header's number; no case has values
 abbrev pub headerPaper : Header → Paper
 headerPaper h = record { number = headerNumber h; values = [] }
 

@@ -21,6 +21,7 @@ headerValues Unmarked = []
 headerValues Foreign = []
 headerValues Unknown = []
 
+-- what document 01 says of a header
 abbrev pub headerPaper : Header → Paper
 headerPaper h = record { number = headerNumber h; values = headerValues h }
 
@@ -31,5 +32,6 @@ recordValues End = []
 recordValues Cut = []
 recordValues Astray = []
 
+-- what it says of a record
 abbrev pub recordPaper : Record → Paper
 recordPaper r = record { number = recordNumber r; values = recordValues r }

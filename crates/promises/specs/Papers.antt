@@ -24,10 +24,11 @@ ofFile f = headerPaper (headerOf lmf f)
 abbrev pub ofRest : ℕ → List ℕ → Paper
 ofRest c f = recordPaper (recordOf c f)
 
--- what a log's header is told, and how many bytes the call at the front of some bytes is told to take
+-- what a log's header is told
 abbrev pub ofLog : List ℕ → Paper
 ofLog b = logPaper.headerPaper (log.headerOf b)
 
+-- how many bytes the call at their front is told to take
 abbrev pub ofCall : List ℕ → List ℕ
 ofCall b = logPaper.takenValues (log.callTaken b)
 
