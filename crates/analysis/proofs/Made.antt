@@ -18,6 +18,7 @@ use Rattle.analysis_steps.specs.Energy.{energies, exceeds, Rising}
 use Rattle.analysis_steps.proofs.Buffers.{past-of, past-of-step}
 use Rattle.analysis_lines.specs.Lines.{timeBuffer}
 use Rattle.analysis_lines.proofs.Made.{fits}
+use Rattle.analysis.specs.Buffers.{Buffers}
 use Rattle.analysis.specs.Analysis.{energiesOf, flagOf, keptOf, channelOf, held}
 
 module _ (c : ℕ) (past x : List ℤ) (v : T (valid c)) (hp : length past ≡ nf c - z c) (hx : length x ≡ nf c) where
@@ -39,15 +40,17 @@ module _ (c : ℕ) (past x : List ℤ) (v : T (valid c)) (hp : length past ≡ n
       ap (λ (l : List ℤ). tab (nf c - z c) (λ k. getD (l ++ replicate (300 - (nf c - z c)) (pos 0)) k (pos 0))) (past-of-step (nf c) (z c) past (fits c past x v hp hx) x hx)
       ∙ tab-at (drop (z c) x) (replicate (300 - (nf c - z c)) (pos 0)) (pos 0) (nf c - z c) last-length
 
-  -- the next frame's time buffer is the step from this one's: the channel does what the Rust's time buffer does
-  pub next-buffer : (y : List ℤ) → timeBuffer c (held (channelOf c (keptOf c past x))) y ≡ bufferStep (nf c) (z c) (timeBuffer c past x) y
-  unfolding timeBuffer bufferStep
-  next-buffer y =
+-- the next frame's time buffer is the step from this one's: the channel does what the Rust's time buffer does
+pub buffers : Buffers
+unfolding timeBuffer bufferStep
+buffers = record {
+  next-buffer = λ c past x v hp hx y.
       let s = sound c v in
       ap (λ (p : List ℤ). p ++ y ++ replicate (z c) (pos 0))
-      (ap (λ (p : List ℤ). pastOf (nf c) (z c) (bufferOf (nf c) (z c) p)) next-past
-      ∙ past-of (nf c) (z c) (drop (z c) x) (ap (λ (n : ℕ). n + z c) last-length ∙ omega arith)
-      ∙ sym (past-of-step (nf c) (z c) past (fits c past x v hp hx) x hx))
+      (ap (λ (p : List ℤ). pastOf (nf c) (z c) (bufferOf (nf c) (z c) p)) (next-past c past x v hp hx)
+      ∙ past-of (nf c) (z c) (drop (z c) x) (ap (λ (n : ℕ). n + z c) (last-length c past x v hp hx) ∙ omega arith)
+      ∙ sym (past-of-step (nf c) (z c) past (fits c past x v hp hx) x hx));
+}
 
 -- the edges that the code has at hand
 pub edges-rise : (c n m : ℕ) (es : List ℕ) → T (valid c) → n ≡ nb c → m ≡ nf c → es ≡ edges c → Rising n es m

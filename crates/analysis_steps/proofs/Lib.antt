@@ -1,4 +1,3 @@
 pub mod Parts
 pub mod Sums
 pub mod Buffers
-pub mod Facts

@@ -1,4 +1,3 @@
 pub mod Buffer
 pub mod Fold
 pub mod Energy
-pub mod Facts

@@ -2,7 +2,7 @@
 use mathlib.Core.Path.{_≡_}
 use mathlib.Core.Bool.{Bool, true, false, _&&_}
 use mathlib.Core.List.{List, [], _∷_}
-use Prim.Native.Nat.{ℕ, zero, suc, _+_, _-_, _*_, _≤_, _<_}
+use Prim.Native.Nat.{ℕ, zero, suc, _-_, _*_, _≤_, _<_}
 use native.Mathlib.Nat.{not-suc-le-zero, le-of-suc-le-suc}
 use native.Mathlib.Numerals.{add-one}
 use native.Mathlib.Omega.{arith}
@@ -13,10 +13,7 @@ use Rattle.laws.proofs.Arms.{others-le, Others}
 use Rattle.laws.proofs.Table.{at, every}
 use Rattle.config.specs.Tables.{rows, edgeRows}
 use Rattle.config.specs.Config.{largest, valid, configs, row, nf, z, ne, nb, rate, duration, upper, half, edges, among, fftSizes, dctLengths, bandCounts}
-
--- m bands with the edges es: each has a line at least, and none goes past n
-abbrev pub Rising : ℕ → List ℕ → ℕ → Type 0
-Rising m es n = (b : ℕ) → b < m → (getD es b 0 < getD es (b + 1) 0) × (getD es (b + 1) 0 ≤ n)
+use Rattle.config.specs.Sound.{Rising, AllSound}
 
 abbrev rise : ℕ → List ℕ → ℕ → Bool
 rise zero es n = true
@@ -49,7 +46,7 @@ config-at c h = eqb→eq c (getD configs c 0) (at eqb configs tt c h)
 pub each : (f : ℕ → Bool) → T (every (λ k c. f c) 0 configs) → (c : ℕ) → T (valid c) → T (f c)
 each f t c v = let h = valid-lt c v in rw (config-at c h) (at (λ k c. f c) configs t c h)
 
--- the test, each fact of the record below in its place
+-- the test, each row of `Sound` in its place
 abbrev good : ℕ → Bool
 good c =
     eqb (nf c) (2 * half c)
@@ -73,26 +70,7 @@ test : T (every (λ k c. good c) 0 configs)
 unfolding row rows half edges edgeRows fftSizes dctLengths bandCounts
 test = tt
 
-pub record Sound (c : ℕ) : Type 0 where
-  pub even : nf c ≡ 2 * half c
-  pub half-pos : 0 < half c
-  pub z-lt : 2 * z c < nf c
-  pub nf-le : nf c ≤ 480
-  pub keep-le : nf c - z c ≤ 300
-  pub ne-le : ne c ≤ nf c
-  pub nb-pos : 0 < nb c
-  pub nb-le : nb c ≤ 64
-  pub upper-le : upper c ≤ nb c
-  pub lasts : nf c * 1000000 ≡ rate c * duration c
-  pub fft-size : T (among fftSizes (half c))
-  pub dct-length : T (among dctLengths (nf c))
-  pub band-count : T (among bandCounts (nb c))
-  pub edges-65 : length (edges c) ≡ 65
-  pub edges-from : getD (edges c) 0 0 ≡ 0
-  pub edges-to : getD (edges c) (nb c) 0 ≡ ne c
-  pub rising : Rising (nb c) (edges c) (ne c)
-
-pub sound : (c : ℕ) → T (valid c) → Sound c
+pub sound : AllSound
 sound c v =
     let t1 : T (good c) = each good test c v in
     let t2 = and-r (eqb (nf c) (2 * half c)) _ t1 in

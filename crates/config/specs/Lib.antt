@@ -1,3 +1,4 @@
 pub mod Config
 pub mod Tables
 pub mod Refusals
+pub mod Sound

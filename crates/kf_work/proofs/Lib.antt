@@ -3,4 +3,3 @@ pub mod Spread
 pub mod Plan
 pub mod Parts
 pub mod Sizes
-pub mod Facts

@@ -2,7 +2,7 @@
 use mathlib.Core.Path.{_≡_, ap, ap₂, _∙_, sym}
 use mathlib.Core.Bool.{Bool, true, false, _&&_}
 use mathlib.Core.List.{List, _++_}
-use Prim.Native.Nat.{ℕ, _≤_, _<_}
+use Prim.Native.Nat.{ℕ, _<_}
 use native.Mathlib.Omega.{arith}
 use lib.Dec.{T, ltb, leb, eqb, ltb→lt, leb→le, eqb→eq}
 use lib.Ieee.{Float, nan}
@@ -13,20 +13,13 @@ use Rattle.laws.specs.Lists.{tab}
 use Rattle.laws.proofs.Lists.{is-tab}
 use Rattle.laws.proofs.Table.{every}
 use Rattle.config.specs.Tables.{rows}
-use Rattle.config.specs.Config.{row, half, among, fftSizes}
+use Rattle.config.specs.Config.{row, half, fftSizes}
 use Rattle.config.proofs.Among.{at-among}
 use Rattle.complex.specs.declared.Complex.{Complex}
 use Rattle.complex.specs.Complex.{at}
 use Rattle.kf_work.specs.Work.{plan, span, planned, work, within, spectrum, reals, imaginaries}
+use Rattle.kf_work.specs.Sized.{Sized, AllSized}
 use Rattle.kf_work.proofs.Spread.{within-lt}
-
--- what proofs need of an accepted size. `plan-radixes`: no radix but 2, 3, 4 and 5, so `kf_bfly_generic` is never reached
-pub record Sized (n : ℕ) : Type 0 where
-  pub plan-radixes : T (planned (plan n))
-  pub some : 0 < length (plan n)
-  pub whole : span (plan n) ≡ n
-  pub small : n < 65536
-  pub short : length (plan n) ≤ 32
 
 abbrev good : ℕ → Bool
 good n = planned (plan n) && (ltb 0 (length (plan n)) && (eqb (span (plan n)) n && (ltb n 65536 && leb (length (plan n)) 32)))
@@ -35,7 +28,7 @@ test : T (every (λ k n. good n) 0 fftSizes)
 unfolding fftSizes half row rows plan planned
 test = tt
 
-pub sized : (n : ℕ) → T (among fftSizes n) → Sized n
+pub sized : AllSized
 sized n s =
     let t1 : T (good n) = at-among good fftSizes test n s in
     let t2 = and-r (planned (plan n)) _ t1 in

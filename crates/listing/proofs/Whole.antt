@@ -28,6 +28,7 @@ use Rattle.listing.specs.declared.frame.Measured.{Measured}
 use Rattle.listing.specs.Text.{firstLine, refusedLine}
 use Rattle.listing.specs.Listing.{zeros, listened, lineOf, frameLines, lastLine, body, listed, listing}
 use Rattle.listing.specs.Steps.{text, said, start, told, opened, opening, counted, framed, found, step, written, held}
+use Rattle.listing.specs.Whole.{Listed}
 use Rattle.laws.proofs.Bools.{outcomes}
 use Rattle.listing.proofs.Found.{usedBy, whole}
 use Rattle.listing.proofs.Lines.{said-text}
@@ -201,10 +202,6 @@ of-header f Unmarked q few = ends (suc (length f)) _ f (start 255)
 of-header f Foreign q few = ends (suc (length f)) _ f (start 255)
 of-header f Unknown q few = ends (suc (length f)) _ f (start 255)
 
-pub listing-is : (f : List ℕ) → held (headerOf lmf f) f < 2 ^ 64 → written (suc (length f)) (opening f) f ≡ listing f
-unfolding opening listing
-listing-is f few = of-header f (headerOf lmf f) refl few
-
 -- ---- what a step reads: a frame's bytes, of the header six, so that the program may hand it these alone
 reads : (c : ℕ) (f : List ℕ) → T (valid c) → recordOf c (take (frameBytes c) f) ≡ recordOf c f
 unfolding recordOf
@@ -235,18 +232,20 @@ used-most c f End q = omega arith
 used-most c f Cut q = omega arith
 used-most c f Astray q = omega arith
 
-pub step-reads : (l : Lister) (f : List ℕ) → T (valid (l .channel .config)) → step l (take (frameBytes (l .channel .config)) f) ≡ step l f
-unfolding step
-step-reads l f v =
-    let c = l .channel .config in
-    ap (found l (take (frameBytes c) f)) (reads c f v) ∙ found-reads l f (recordOf c f) (used-most c f (recordOf c f) refl)
-
-pub opening-reads : (f : List ℕ) → opening (take 6 f) ≡ opening f
-unfolding opening headerOf marked
-opening-reads f =
-    ⊎-elim
-    (λ h. ap (λ (g : List ℕ). opened (headerOf lmf g)) (take-all 6 f (omega (arith, ltb-true (length f) 6 h))))
-    (λ h.
-    let e = length-take-le 6 f (ltb-false (length f) 6 h) in
-    rw (e, h, getD-take 6 f 0 0 (omega arith), getD-take 6 f 1 0 (omega arith), getD-take 6 f 2 0 (omega arith), getD-take 6 f 3 0 (omega arith), getD-take 6 f 4 0 (omega arith), getD-take 6 f 5 0 (omega arith)))
-    (outcomes (ltb (length f) 6))
+-- THE STATEMENT
+pub listed-whole : Listed
+unfolding opening listing step headerOf marked
+listed-whole =
+    record {
+      listing-is = λ f few. of-header f (headerOf lmf f) refl few;
+      step-reads = λ l f v.
+          let c = l .channel .config in
+          ap (found l (take (frameBytes c) f)) (reads c f v) ∙ found-reads l f (recordOf c f) (used-most c f (recordOf c f) refl);
+      opening-reads = λ f.
+          ⊎-elim
+          (λ h. ap (λ (g : List ℕ). opened (headerOf lmf g)) (take-all 6 f (omega (arith, ltb-true (length f) 6 h))))
+          (λ h.
+          let e = length-take-le 6 f (ltb-false (length f) 6 h) in
+          rw (e, h, getD-take 6 f 0 0 (omega arith), getD-take 6 f 1 0 (omega arith), getD-take 6 f 2 0 (omega arith), getD-take 6 f 3 0 (omega arith), getD-take 6 f 4 0 (omega arith), getD-take 6 f 5 0 (omega arith)))
+          (outcomes (ltb (length f) 6));
+    }

@@ -59,11 +59,20 @@ heard l =
     (cond (eqb (first passes7 l) (length l)) (told (loudest l)) (refusal badEnergy (first passes7 l)))
     (refusal badEnergies 0)
 
--- ---- the paper's number and values for each case of the answer
+-- ---- the paper's number, index and values for each case of the answer
 pub record Paper : Type 0 where
+  -- 0, 5 or 7
   pub number : ℕ
+  -- beside 7 the first bad energy's, else 0
+  pub index : ℕ
+  -- the band and its energy, where it is loud
   pub values : Option (ℕ × Float)
 
-abbrev pub paper : Loudest → Paper
-paper Quiet = record { number = accepted; values = none }
-paper (Loud band energy) = record { number = accepted; values = some (band, energy) }
+-- a quiet answer has none
+abbrev pub values : Loudest → Option (ℕ × Float)
+values Quiet = none
+values (Loud band energy) = some (band, energy)
+
+-- quiet stands beside a refusal too, so the number is the one that the call returns
+abbrev pub paper : Heard → Paper
+paper h = record { number = h .number; index = h .index; values = values (h .loudest) }

@@ -13,7 +13,6 @@ use Rattle.kf_work.specs.Work.{plan}
 use Rattle.analysis_steps.specs.Buffer.{bufferStep}
 use Rattle.analysis_steps.specs.Fold.{folded}
 use Rattle.analysis.specs.Analysis.{flagOf}
-use Rattle.analysis.specs.Facts.{bands}
 use Rattle.laws.specs.Numbers.{zero32}
 use Rattle.synthesis_steps.specs.Places.{unfolded, output, remains}
 use Rattle.synthesis.specs.Synthesis.{Lent, number, index}
@@ -22,6 +21,10 @@ use Rattle.loudest.specs.Loudest.{First, heard, paper}
 -- a whole number as an f32
 abbrev pub whole : ℤ → Float
 whole n = ofInt binary32 n
+
+-- 64 energies, zero but band 0 = 1.0 and band 62 = the value whose bits are b
+abbrev pub bands : ℕ → List Float
+bands b = ofBits binary32 0x3f800000 ∷ replicate 61 zero32 ++ (ofBits binary32 b ∷ zero32 ∷ [])
 
 -- a synthesis call at configuration 0: 60 lines, zero but line 7 with the bits b
 abbrev pub loud7 : ℕ → Lent
@@ -61,5 +64,5 @@ pub record Facts : Type 0 where
   pub p11-refused : number 0 (loud7 0x5d800001) ≡ badValue
   pub p11-index : index badValue (loud7 0x5d800001) ≡ 7
   -- P12 two equal greatest energies: the lower band. Bands 7 and 20 with 2.0; and of any energies, the band told is the first with the greatest.
-  pub p12 : paper (heard (twins 0x40000000) .loudest) ≡ record { number = accepted; values = some (7, ofBits binary32 0x40000000) }
-  pub p12-any : (l : List Float) (b : ℕ) (e : Float) → paper (heard l .loudest) .values ≡ some (b, e) → First l b × (e ≡ getD l b nan)
+  pub p12 : paper (heard (twins 0x40000000)) ≡ record { number = accepted; index = 0; values = some (7, ofBits binary32 0x40000000) }
+  pub p12-any : (l : List Float) (b : ℕ) (e : Float) → paper (heard l) .values ≡ some (b, e) → First l b × (e ≡ getD l b nan)

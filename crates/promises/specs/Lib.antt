@@ -4,3 +4,4 @@ pub mod SynthesisChannel
 pub mod Facts
 pub mod Entries
 pub mod Flags
+pub mod Papers

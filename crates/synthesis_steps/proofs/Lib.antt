@@ -2,5 +2,4 @@ pub mod Lists
 pub mod Places
 pub mod Mirrors
 pub mod Moves
-pub mod Small
 pub mod Lengths

@@ -1,4 +1,4 @@
--- The unfolded frame, place by place; and that its halves mirror before the window, bit for bit: `unfold-mirrors`. Assumes nothing.
+-- The unfolded frame, place by place; and that its halves mirror before the window, bit for bit: `halves`. Assumes nothing.
 use mathlib.Core.Path.{_≡_, refl, sym, ap, _∙_}
 use mathlib.Core.Logic.{⊎-elim}
 use mathlib.Core.List.{List, map, reverse}
@@ -9,6 +9,7 @@ use lib.Seq.{getD-drop, getD-take, length-take-le}
 use lib.Ieee.{Float, nan, binary32, neg, mul}
 use Rattle.laws.proofs.Sign.{neg-neg, mul-neg}
 use Rattle.synthesis_steps.specs.Places.{mirrored, unfolded, scaled, Mirrors}
+use Rattle.synthesis_steps.specs.Halves.{Halves}
 use Rattle.synthesis_steps.proofs.Lists.{lt-or-ge, getD-second, getD-reverse, getD-negs}
 use Rattle.synthesis_steps.proofs.Places.{getD-scaled}
 
@@ -78,7 +79,7 @@ module _ (h : ℕ) (b : List Float) (e : length b ≡ 2 * h) where
       (lt-or-ge k h)
 
   -- document 01, module 6: before the window the halves mirror, bit for bit, whatever the values and the gain
-  pub unfold-mirrors : (g : Float) → Mirrors h (scaled g (unfolded h b))
+  unfold-mirrors : (g : Float) → Mirrors h (scaled g (unfolded h b))
   unfold-mirrors g = record {
     antisymmetric = λ k p.
         at k ∙ ap (λ (x : Float). mul binary32 x g) (front k p) ∙ mul-neg binary32 (getD (unfolded h b) (2 * h - 1 - k) nan) g ∙ ap neg (sym (at (2 * h - 1 - k)));
@@ -87,3 +88,6 @@ module _ (h : ℕ) (b : List Float) (e : length b ≡ 2 * h) where
     where
       at : (k : ℕ) → getD (scaled g (unfolded h b)) k nan ≡ mul binary32 (getD (unfolded h b) k nan) g
       at k = getD-scaled g (unfolded h b) k
+
+pub halves : Halves
+halves = record { unfold-mirrors = unfold-mirrors }

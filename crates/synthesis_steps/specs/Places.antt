@@ -36,5 +36,7 @@ remains n z t = drop (n + z) t
 
 -- document 01, module 6, last sentence: bit for bit, before the window
 pub record Mirrors (h : ℕ) (t : List Float) : Type 0 where
+  -- a place of the first half is the negative of the one that stands as far from the half's other end
   pub antisymmetric : (k : ℕ) → k < 2 * h → getD t k nan ≡ neg (getD t (2 * h - 1 - k) nan)
+  -- a place of the second half is the one that stands as far from the half's other end
   pub symmetric : (k : ℕ) → k < 2 * h → getD t (2 * h + k) nan ≡ getD t (4 * h - 1 - k) nan

@@ -1,7 +1,7 @@
 -- What document 01 asks of each twiddle, and a rule of the gains, by one computed test over all sizes each, and a law at each entry. Assumes nothing.
 use mathlib.Core.Bool.{Bool, true, false, _&&_}
 use mathlib.Core.List.{List, [], _∷_}
-use Prim.Native.Nat.{ℕ, zero, suc, _+_, _<_}
+use Prim.Native.Nat.{ℕ, zero, suc, _<_}
 use native.Mathlib.Nat.{not-suc-le-zero, le-of-suc-le-suc}
 use native.Mathlib.Numerals.{add-one}
 use lib.Dec.{T}
@@ -10,11 +10,11 @@ use lib.Ieee.{Float, nan, ofBits, ofFields, odd}
 use lib.Ieee.Fits.{and-l, and-r}
 use lib.Count.{trailingZeros}
 use Rattle.laws.proofs.Table.{every}
-use Rattle.config.specs.Config.{among}
 use Rattle.config.proofs.Among.{at-among}
 use Rattle.twiddles.specs.Tables.{sizes, fftReBits, fftImBits, dctReBits, dctImBits, gainBits}
 use Rattle.twiddles.specs.Twiddles.{start, fftRe, fftIm, dctRe, dctIm, lengths, gain}
 use Rattle.twiddles.specs.Circle.{finite, units, near, circle, turned, rooted}
+use Rattle.twiddles.specs.Rules.{Rules}
 use Rattle.twiddles.proofs.Sizes.{sized}
 
 -- every pair of the two lists is on the circle
@@ -35,14 +35,6 @@ round n = circles (fftRe n) (fftIm n) && circles (dctRe n) (dctIm n)
 circle-test : T (every (λ k n. round n) 0 sizes)
 unfolding sizes start fftRe fftIm dctRe dctIm fftReBits fftImBits dctReBits dctImBits circle near units finite ofBits ofFields odd trailingZeros
 circle-test = tt
-
-pub fft-circle : (n : ℕ) → T (among sizes n) → (k : ℕ) → k < n → T (circle (getD (fftRe n) k nan) (getD (fftIm n) k nan))
-fft-circle n s k h =
-    circle-at (fftRe n) (fftIm n) (and-l (circles (fftRe n) (fftIm n)) _ (at-among round sizes circle-test n s)) k (rw (sized n s .fft-re) h)
-
-pub dct-circle : (n : ℕ) → T (among sizes n) → (k : ℕ) → k < n → T (circle (getD (dctRe n) k nan) (getD (dctIm n) k nan))
-dct-circle n s k h =
-    circle-at (dctRe n) (dctIm n) (and-r (circles (fftRe n) (fftIm n)) _ (at-among round sizes circle-test n s)) k (rw (sized n s .dct-re) h)
 
 -- every pair of the two lists but the first is the one before it, turned by (br, bi)
 abbrev turns : Float → Float → List Float → List Float → Bool
@@ -67,13 +59,18 @@ turn-test : T (every (λ k n. turning n) 0 sizes)
 unfolding sizes start fftRe fftIm fftReBits fftImBits turned near units ofBits ofFields odd trailingZeros
 turn-test = tt
 
-pub fft-turned : (n : ℕ) → T (among sizes n) → (k : ℕ) → k + 1 < n → T (turned (getD (fftRe n) k nan) (getD (fftIm n) k nan) (getD (fftRe n) 1 nan) (getD (fftIm n) 1 nan) (getD (fftRe n) (k + 1) nan) (getD (fftIm n) (k + 1) nan))
-fft-turned n s k h =
-    rw (add-one k) (turned-at (getD (fftRe n) 1 nan) (getD (fftIm n) 1 nan) (fftRe n) (fftIm n) (at-among turning sizes turn-test n s) k (rw (sized n s .fft-re) (rw (add-one k) at h)))
-
 gain-test : T (every (λ k nf. rooted nf (gain nf)) 0 lengths)
 unfolding sizes gainBits gain rooted near units finite ofBits ofFields odd trailingZeros
 gain-test = tt
 
-pub gain-rooted : (nf : ℕ) → T (among lengths nf) → T (rooted nf (gain nf))
-gain-rooted nf s = at-among (λ nf. rooted nf (gain nf)) lengths gain-test nf s
+pub rules : Rules
+rules =
+    record {
+      fft-circle = λ n s k h.
+          circle-at (fftRe n) (fftIm n) (and-l (circles (fftRe n) (fftIm n)) _ (at-among round sizes circle-test n s)) k (rw (sized n s .fft-re) h);
+      dct-circle = λ n s k h.
+          circle-at (dctRe n) (dctIm n) (and-r (circles (fftRe n) (fftIm n)) _ (at-among round sizes circle-test n s)) k (rw (sized n s .dct-re) h);
+      fft-turned = λ n s k h.
+          rw (add-one k) (turned-at (getD (fftRe n) 1 nan) (getD (fftIm n) 1 nan) (fftRe n) (fftIm n) (at-among turning sizes turn-test n s) k (rw (sized n s .fft-re) (rw (add-one k) at h)));
+      gain-rooted = at-among (λ nf. rooted nf (gain nf)) lengths gain-test;
+    }

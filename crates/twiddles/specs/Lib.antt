@@ -2,3 +2,4 @@ pub mod Twiddles
 pub mod Tables
 pub mod Circle
 pub mod Turns
+pub mod Rules

@@ -16,6 +16,7 @@ use Rattle.config.specs.Config.{valid, configs, row, nf}
 use Rattle.config.proofs.Sound.{each}
 use Rattle.windows.specs.Tables.{entries}
 use Rattle.windows.specs.Windows.{start, window, small, Numbers}
+use Rattle.windows.specs.Rule.{Rule}
 
 abbrev is-small : ℕ → ℕ → Bool
 is-small k x = small (ofBits binary32 x)
@@ -43,7 +44,7 @@ entry-at : (c k : ℕ) → k < 2 * nf c → getD (window c) k 0 ≡ getD entries
 unfolding window
 entry-at c k h = rw (getD-take, getD-drop)
 
-pub window-small : (c : ℕ) → T (valid c) → (k : ℕ) → k < 2 * nf c → T (small (ofBits binary32 (getD (window c) k 0)))
+window-small : (c : ℕ) → T (valid c) → (k : ℕ) → k < 2 * nf c → T (small (ofBits binary32 (getD (window c) k 0)))
 window-small c v k h =
     let w = within c v in
     rw (entry-at c k h) (at is-small entries test (start c + k) (omega arith))
@@ -55,8 +56,11 @@ number nan t = t
 number (inf s) t = tt
 number (fin s m e) t = tt
 
-pub window-number : (c : ℕ) → T (valid c) → (k : ℕ) → k < 2 * nf c → T (not (nanBits binary32 (getD (window c) k 0)))
+window-number : (c : ℕ) → T (valid c) → (k : ℕ) → k < 2 * nf c → T (not (nanBits binary32 (getD (window c) k 0)))
 window-number c v k h = rw (nanBits-is binary32 (getD (window c) k 0)) (number (ofBits binary32 (getD (window c) k 0)) (window-small c v k h))
 
 pub window-numbers : (c : ℕ) → T (valid c) → Numbers (window c)
 window-numbers c v k h = window-number c v k (subst (λ (n : ℕ). k < n) (window-length c v) h)
+
+pub rule : Rule
+rule = record { window-length = window-length; window-small = window-small; window-numbers = window-numbers }

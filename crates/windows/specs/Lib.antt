@@ -1,2 +1,3 @@
 pub mod Windows
 pub mod Tables
+pub mod Rule

@@ -7,7 +7,8 @@ use lib.Dec.{T}
 use lib.ListN.{length}
 use borrow.Author.Tests.{lt-ltb, le-ltb, eq-eqb, ne-eqb, not-true, not-false}
 use Rattle.config.specs.Config.{valid, nf}
-use Rattle.config.proofs.Sound.{Sound, sound}
+use Rattle.config.specs.Sound.{Sound}
+use Rattle.config.proofs.Sound.{sound}
 use Rattle.frame_file.specs.File.{frameBytes, recordOf}
 use Rattle.frame_file.specs.declared.Record.{Record}
 use Rattle.frame_file.specs.declared.Record.the-variants.{Frame}

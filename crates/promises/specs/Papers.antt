@@ -1,0 +1,85 @@
+-- What the answers that are enums come to in the paper's terms, for any input: the number, and the values beside it. Definitions only.
+use Prim.Native.Nat.{ℕ, _*_, _≤_, _<_}
+use mathlib.Core.Path.{_≡_}
+use mathlib.Core.Bool.{true, false}
+use mathlib.Core.Option.{none}
+use mathlib.Core.List.{List, [], _∷_}
+use lib.ListN.{length, getD, take}
+use lib.Ieee.{Float, nan}
+use Rattle.laws.specs.Lists.{first}
+use Rattle.laws.specs.Passes.{passes7}
+use Rattle.config.specs.Config.{largest, nf, among, bandCounts}
+use Rattle.config.specs.Refusals.{accepted, badConfig, badEnergies, badEnergy, shortFile, badMark, badVersion, cutFrame}
+use Rattle.loudest.specs.Loudest.{silent, heard, paper}
+use Rattle.frame_file.specs.File.{lmf, byte, short, headerOf, recordOf}
+use Rattle.frame_file.specs.Paper.{Paper, headerPaper, recordPaper}
+use Rattle.call_log.specs.Log as log
+use Rattle.call_log.specs.Paper as logPaper
+
+-- what a file's header is told
+abbrev pub ofFile : List ℕ → Paper
+ofFile f = headerPaper (headerOf lmf f)
+
+-- what is told of the bytes that are left of a file of configuration c
+abbrev pub ofRest : ℕ → List ℕ → Paper
+ofRest c f = recordPaper (recordOf c f)
+
+-- what a log's header is told
+abbrev pub ofLog : List ℕ → Paper
+ofLog b = logPaper.headerPaper (log.headerOf b)
+
+-- how many bytes the call at their front is told to take
+abbrev pub ofCall : List ℕ → List ℕ
+ofCall b = logPaper.takenValues (log.callTaken b)
+
+-- `LMC`
+abbrev pub lmc : List ℕ
+lmc = 0x4c ∷ 0x4d ∷ 0x43 ∷ []
+
+-- a number and no values
+abbrev pub alone : ℕ → Paper
+alone n = record { number = n; values = [] }
+
+-- acceptance with values
+abbrev pub beside : List ℕ → Paper
+beside values = record { number = accepted; values = values }
+
+pub record Papers : Type 0 where
+  -- the loudest band of energies that are neither 60 nor 64: 5, with index 0 and no values
+  pub bad-energies : (l : List Float) → among bandCounts (length l) ≡ false → paper (heard l) ≡ record { number = badEnergies; index = 0; values = none }
+  -- of 60 or 64 of which one does not pass: 7, with the first such index and no values
+  pub bad-energy : (l : List Float) → among bandCounts (length l) ≡ true → first passes7 l < length l
+      → paper (heard l) ≡ record { number = badEnergy; index = first passes7 l; values = none }
+  -- of 60 or 64 zeros: 0 and no values. What a loud answer's values are is `p12-any` of P
+  pub quiet : (l : List Float) → among bandCounts (length l) ≡ true → ((k : ℕ) → k < length l → silent (getD l k nan) ≡ true)
+      → paper (heard l) ≡ record { number = accepted; index = 0; values = none }
+  -- a file shorter than 6 bytes: 8
+  pub short-file : (f : List ℕ) → length f < 6 → ofFile f ≡ alone shortFile
+  -- 6 bytes or more, the first three not `LMF`: 9
+  pub bad-mark : (f : List ℕ) → 6 ≤ length f → (take 3 f ≡ lmf → ⊥) → ofFile f ≡ alone badMark
+  -- `LMF`, and a version that is not 1: 10
+  pub bad-version : (f : List ℕ) → 6 ≤ length f → take 3 f ≡ lmf → (short f 3 ≡ 1 → ⊥) → ofFile f ≡ alone badVersion
+  -- `LMF` of version 1, and a configuration above 9: 1
+  pub bad-config : (f : List ℕ) → 6 ≤ length f → take 3 f ≡ lmf → short f 3 ≡ 1 → largest < byte f 5 → ofFile f ≡ alone badConfig
+  -- else 0, with version 1 and the configuration byte
+  pub good : (f : List ℕ) → 6 ≤ length f → take 3 f ≡ lmf → short f 3 ≡ 1 → byte f 5 ≤ largest → ofFile f ≡ beside (1 ∷ byte f 5 ∷ [])
+  -- no bytes left of a file: 0 and no value, its end
+  pub at-end : (c : ℕ) → c ≤ largest → ofRest c [] ≡ alone accepted
+  -- some left, but fewer than a frame's 2 nf: 11
+  pub cut : (c : ℕ) (f : List ℕ) → c ≤ largest → 0 < length f → length f < 2 * nf c → ofRest c f ≡ alone cutFrame
+  -- a frame's bytes or more: 0, with the frame's bytes
+  pub whole : (c : ℕ) (f : List ℕ) → c ≤ largest → 2 * nf c ≤ length f → ofRest c f ≡ beside (2 * nf c ∷ [])
+  -- a configuration above 9: 1, whatever the bytes
+  pub astray : (c : ℕ) (f : List ℕ) → largest < c → ofRest c f ≡ alone badConfig
+  -- a log shorter than 5 bytes: 8
+  pub short-log : (b : List ℕ) → length b < 5 → ofLog b ≡ alone shortFile
+  -- 5 bytes or more, the first three not `LMC`: 9
+  pub bad-log-mark : (b : List ℕ) → 5 ≤ length b → (take 3 b ≡ lmc → ⊥) → ofLog b ≡ alone badMark
+  -- `LMC`, and a version that is not 1: 10
+  pub bad-log-version : (b : List ℕ) → 5 ≤ length b → take 3 b ≡ lmc → (short b 3 ≡ 1 → ⊥) → ofLog b ≡ alone badVersion
+  -- else 0, and no value
+  pub good-log : (b : List ℕ) → 5 ≤ length b → take 3 b ≡ lmc → short b 3 ≡ 1 → ofLog b ≡ alone accepted
+  -- a clear takes its kind and its configuration
+  pub whole-call : (c : ℕ) (b : List ℕ) → ofCall (1 ∷ c ∷ b) ≡ 2 ∷ []
+  -- cut after its kind it is stopped
+  pub cut-call : ofCall (1 ∷ []) ≡ []
