@@ -1,7 +1,7 @@
 -- What one read has brought, and how far reads get: each brings something or is the last. Assumes nothing.
 use Prim.Native.Nat.{ℕ, _+_, _-_, _≤_, _<_}
 use mathlib.Core.Path.{_≡_, refl, sym, ap, _∙_, subst}
-use mathlib.Core.Bool.{Bool, true, false, cond}
+use mathlib.Core.Bool.{Bool, true, false, cond, true≢false}
 use mathlib.Core.List.{List, _++_}
 use native.Mathlib.Omega.{arith}
 use lib.Dec.{ltb}
@@ -17,9 +17,6 @@ use Rattle.lmf_list.specs.declared.Input.{Input}
 use Rattle.lmf_list.specs.declared.Turn.{Turn}
 use Rattle.lmf_list.specs.Reading.{brought, Came, Filled, Next}
 
-pub untrue : {A : Type 0} → true ≡ false → A
-untrue q = let o : _≡_ {A = ℕ} 1 0 = ap (λ (b : Bool). cond b 1 0) q in absurd (omega arith)
-
 -- a read of n bytes to the places from `at` on
 module _ (before after : List ℕ) (at n : ℕ) (r : Input) where
   pub came : (failed : Bool) → r ≡ brought at (at + n) failed → at ≤ length after → n ≤ length (midOf at (length after - at) after) → take at after ≡ take at before
@@ -30,7 +27,7 @@ module _ (before after : List ℕ) (at n : ℕ) (r : Input) where
       (record { from = omega arith; within = h; stays = t; more = sym (le-ltb at at (omega arith)); failed = λ q. refl })
   came false e h g t =
       let l : length (midOf at (length after - at) after) ≡ length after - at = ap length (mid-tail at after) ∙ length-drop at after in
-      subst (λ (r : Input). Came before at r after) (sym e) (record { from = omega arith; within = omega arith; stays = t; more = refl; failed = λ q. untrue q })
+      subst (λ (r : Input). Came before at r after) (sym e) (record { from = omega arith; within = omega arith; stays = t; more = refl; failed = λ q. absurd (true≢false q) })
 
 -- what is left of n places, and one turn more where more may come
 abbrev pub left : ℕ → Input → ℕ

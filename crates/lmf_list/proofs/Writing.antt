@@ -2,7 +2,7 @@
 use Prim.Native.Nat.{ℕ, _+_, _-_, _≤_, min}
 use mathlib.Core.Path.{_≡_, refl, sym, ap, _∙_}
 use mathlib.Core.List.{List}
-use mathlib.Core.Bool.{Bool, true, false, cond}
+use mathlib.Core.Bool.{Bool, true, false, cond, true≢false}
 use native.Mathlib.Nat.{min-le-right}
 use native.Mathlib.Omega.{arith}
 use lib.Dec.{ltb}
@@ -12,11 +12,10 @@ use borrow.Author.Tests.{ltb-false}
 use Rattle.listing.specs.declared.line.Text.{Text}
 use Rattle.lmf_list.specs.declared.Output.{Output}
 use Rattle.lmf_list.specs.Writing.{waiting, Room, Put}
-use Rattle.lmf_list.proofs.Reading.{untrue}
 
 module _ (room n : ℕ) where
   pub made-room : (ok : Bool) → ltb (room - n) 64 ≡ true → Room room n (record { len = 0; ok = ok })
-  made-room ok t = record { len = sym (ap (λ (b : Bool). cond b 0 n) t); ok = λ q. untrue (sym t ∙ q) }
+  made-room ok t = record { len = sym (ap (λ (b : Bool). cond b 0 n) t); ok = λ q. absurd (true≢false (sym t ∙ q)) }
 
   pub had-room : ltb (room - n) 64 ≡ false → Room room n (record { len = n; ok = true })
   had-room t = record { len = sym (ap (λ (b : Bool). cond b 0 n) t); ok = λ q. refl }

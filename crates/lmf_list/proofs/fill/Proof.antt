@@ -1,11 +1,12 @@
 -- `lmf_list::fill` meets its contract. The invariant: what is read is a part of the slice, whose length stays. Each read brings something, or is the last. Assumes nothing.
 use Prim.Native.Nat.{_≤_}
 use mathlib.Core.Path.{_≡_, sym, _∙_}
+use mathlib.Core.Bool.{true≢false}
 use native.Mathlib.Omega.{arith}
 use lib.ListN.{length}
 use borrow.Author.Tests.{ltb-true, ltb-false}
 use borrow.Author.Needs.{needs}
-use Rattle.lmf_list.proofs.Reading.{untrue, left, less, filled}
+use Rattle.lmf_list.proofs.Reading.{left, less, filled}
 use Rattle.lmf_list.proofs.fill.Statement.{statement}
 use Rattle.lmf_list.proofs.fill.Tie as tie
 
@@ -41,7 +42,7 @@ same-length-2 : tie.Need-same-length-2 Inv-loop μ-loop
 same-length-2 c = search needs
 
 returns-2 : tie.Need-returns-2 Inv-loop μ-loop
-returns-2 c = filled _ _ (c .before .loop .inv .1) (λ q. untrue (sym q ∙ c .loop-test .left))
+returns-2 c = filled _ _ (c .before .loop .inv .1) (λ q. absurd (true≢false (sym q ∙ c .loop-test .left)))
 
 pub fill-spec : {M : Type 1} → statement M
 fill-spec =
