@@ -33,7 +33,6 @@ pub put : (before : List ℕ) (n : ℕ) (t : Text) → 64 ≤ length before → 
     → len ≡ ready .len + min (t .len) 64 → after ≡ paste before (ready .len) (t .bytes) (min (t .len) 64) → length after ≡ length before
     → Put before n t (record { len = len; ok = ready .ok }) after
 put before n t h g r e p l =
-    let w = waiting (length before) n in
     record {
       len = e ∙ ap (λ (k : ℕ). k + min (t .len) 64) (r .len);
       within = omega (arith, r .len, room-enough (length before) n h g, min-le-right (t .len) 64);
