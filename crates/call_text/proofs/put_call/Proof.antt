@@ -13,8 +13,9 @@ returns c =
     let a = c .before .before .before .before .before .before .before .before .before .before .before .before .before .before .before .args in
     three (page (a .out .now) (a .at)) (numbers (a .count) (a .kind)) (answer (a .number) (a .index) (a .e)) (areaLines (a .kind) (take (a .m) (a .x .now)) (take (a .n) (a .y .now))) (c .before .before .before .before .before .before .before .before .before .before .put-numbers .ensures) (c .before .before .before .before .before .before .put-answer .ensures) (c .before .before .put-parts .ensures)
 
-pub put-call-spec : {M : Type 1} → statement M
-put-call-spec =
+-- the needs without a name, for any answer: a wrong one hides none of them
+safe : tie.Need-returns → {M : Type 1} → statement M
+safe returns =
     tie.close
     (tie.spec
     (λ c κs. search needs)
@@ -22,3 +23,6 @@ put-call-spec =
     (λ c κs. search needs)
     (λ c. search needs)
     returns)
+
+pub put-call-spec : {M : Type 1} → statement M
+put-call-spec = safe returns

@@ -14,8 +14,9 @@ returns c =
     let b = c .before .before .before .before .before .before .before .before .before .before .before .before .before .before .args in
     three (page (b .out .now) (b .at)) (numbers (b .count) 8) (answer 0 0 Nothing) (analysisLine (b .a) (b .samples .now) ++ synthesisLine (b .s) (b .memory .now)) (c .before .before .before .before .before .before .before .before .before .before .put-numbers .ensures) (c .before .before .before .before .before .before .put-answer .ensures) (c .before .before .put-channels .ensures)
 
-pub put-show-spec : {M : Type 1} → statement M
-put-show-spec =
+-- the needs without a name, for any answer: a wrong one hides none of them
+safe : tie.Need-returns → {M : Type 1} → statement M
+safe returns =
     tie.close
     (tie.spec
     (λ c κs. search needs)
@@ -23,3 +24,6 @@ put-show-spec =
     (λ c κs. search needs)
     (λ c. search needs)
     returns)
+
+pub put-show-spec : {M : Type 1} → statement M
+put-show-spec = safe returns

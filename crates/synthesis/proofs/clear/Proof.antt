@@ -17,8 +17,9 @@ returns-2 c =
     ap (λ (ch : Channel). record { number = 1; channel = ch }) (c .silent2 .ensures)
     ∙ sym (clear-is (c .before .before .before .args .config) false _ (c .before .if1 .left) (c .before .before .valid .ensures))
 
-pub clear-spec : {M : Type 1} → statement M
-clear-spec =
+-- the needs without a name, for any answer: a wrong one hides none of them
+safe : tie.Need-returns → tie.Need-returns-2 → {M : Type 1} → statement M
+safe returns returns-2 =
     tie.close
     (tie.spec
     (λ c κs. search needs)
@@ -26,3 +27,6 @@ clear-spec =
     (λ c κs. search needs)
     returns
     returns-2)
+
+pub clear-spec : {M : Type 1} → statement M
+clear-spec = safe returns returns-2

@@ -36,8 +36,9 @@ returns-5 c =
     let x = lent (a .lines .now) (a .samples .now) in
     says-0 (a .c) x (c .before .before .before .before .before .before .before .valid .ensures) (c .before .before .before .before .before .before .if1 .left) (omega arith) (omega arith) (c .before .first-failing-6 .ensures) (c .if4 .left)
 
-pub refusal-spec : {M : Type 1} → statement M
-refusal-spec =
+-- the needs without a name, for any answer: a wrong one hides none of them
+safe : tie.Need-returns → tie.Need-returns-2 → tie.Need-returns-3 → tie.Need-returns-4 → tie.Need-returns-5 → {M : Type 1} → statement M
+safe returns returns-2 returns-3 returns-4 returns-5 =
     tie.close
     (tie.spec
     (λ c κs. search needs)
@@ -49,3 +50,6 @@ refusal-spec =
     (λ c κs. search needs)
     returns-4
     returns-5)
+
+pub refusal-spec : {M : Type 1} → statement M
+refusal-spec = safe returns returns-2 returns-3 returns-4 returns-5

@@ -16,6 +16,9 @@ Inv-loop from to₀ i₀ to i = (i ≤ length to₀) × Filled (λ k. neg (getD 
 abbrev μ-loop : tie.MeasureT-loop
 μ-loop from to₀ i₀ to i = length to₀ - i
 
+loop-holds : tie.Need-loop-holds Inv-loop μ-loop
+loop-holds c = (omega arith, filled-none _ _)
+
 loop-again : tie.Need-loop-again Inv-loop μ-loop
 loop-again c = (omega arith, filled-more _ nan (c .before .before .loop .inv .1) (omega arith) refl)
 
@@ -24,13 +27,14 @@ returns c =
     let x = c .before .before .args .from .now in
     filled-is nan _ (c .before .loop .inv .1) (omega arith) (length-map x neg ∙ c .before .before .pre) (λ k b. getD-negs x k)
 
-pub negate-spec : {M : Type 1} → statement M
-negate-spec =
+-- the needs without a name, for any answer: a wrong one hides none of them
+safe : tie.Need-loop-holds Inv-loop μ-loop → tie.Need-loop-again Inv-loop μ-loop → tie.Need-returns Inv-loop μ-loop → {M : Type 1} → statement M
+safe loop-holds loop-again returns =
     tie.close
     (tie.spec
     Inv-loop
     μ-loop
-    (λ c. (omega arith, filled-none _ _))
+    loop-holds
     (λ c. search needs)
     (λ c. search needs)
     (λ c. search needs)
@@ -40,3 +44,6 @@ negate-spec =
     loop-again
     (λ c. search needs)
     returns)
+
+pub negate-spec : {M : Type 1} → statement M
+negate-spec = safe loop-holds loop-again returns

@@ -37,8 +37,9 @@ returns c =
       c .before .before .before .before .before .before .before .copy .ensures ∙ mid-tail (n + a .z) t,
     )
 
-pub overlap-add-spec : {M : Type 1} → statement M
-overlap-add-spec =
+-- the needs without a name, for any answer: a wrong one hides none of them
+safe : tie.Need-returns → {M : Type 1} → statement M
+safe returns =
     tie.close
     (tie.spec
     (λ c. search needs)
@@ -67,3 +68,6 @@ overlap-add-spec =
     (λ c. search needs)
     (λ c. search needs)
     returns)
+
+pub overlap-add-spec : {M : Type 1} → statement M
+overlap-add-spec = safe returns

@@ -17,6 +17,9 @@ Inv-loop t₀ w n i₀ t i = (i ≤ length t₀) × Filled (λ k. mul binary32 (
 abbrev μ-loop : tie.MeasureT-loop
 μ-loop t₀ w n i₀ t i = length t₀ - i
 
+loop-holds : tie.Need-loop-holds Inv-loop μ-loop
+loop-holds c = (omega arith, filled-none _ _)
+
 float-from-bits-t : tie.Need-float-from-bits-t Inv-loop μ-loop
 float-from-bits-t c = c .before .before .before .before .pre .1 _ (omega arith)
 
@@ -32,13 +35,14 @@ returns c =
     let e = c .before .before .pre .0 in
     filled-is nan _ (c .before .loop .inv .1) (omega arith) (length-windowed (a .w .now) (a .t .now) e) (getD-windowed (a .w .now) (a .t .now) e)
 
-pub window-spec : {M : Type 1} → statement M
-window-spec =
+-- the needs without a name, for any answer: a wrong one hides none of them
+safe : tie.Need-loop-holds Inv-loop μ-loop → tie.Need-loop-again Inv-loop μ-loop → tie.Need-returns Inv-loop μ-loop → {M : Type 1} → statement M
+safe loop-holds loop-again returns =
     tie.close
     (tie.spec
     Inv-loop
     μ-loop
-    (λ c. (omega arith, filled-none _ _))
+    loop-holds
     (λ c. search needs)
     (λ c. search needs)
     (λ c. search needs)
@@ -53,3 +57,6 @@ window-spec =
     loop-again
     (λ c. search needs)
     returns)
+
+pub window-spec : {M : Type 1} → statement M
+window-spec = safe loop-holds loop-again returns

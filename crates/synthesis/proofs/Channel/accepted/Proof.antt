@@ -76,8 +76,9 @@ returns c =
     (made-kept (a .self .config) _ (a .lines .now) (y .before .memory .result) (f .3) (f .1) (f .2) e (s .ensures .0) (c .before .before .zeros .ensures))
     (c .new .ensures)
 
-pub accepted-spec : {M : Type 1} → statement M
-accepted-spec =
+-- the needs without a name, for any answer: a wrong one hides none of them
+safe : tie.Need-returns → {M : Type 1} → statement M
+safe returns =
     tie.close
     (tie.spec
     (λ c κs. search needs)
@@ -94,3 +95,6 @@ accepted-spec =
     (λ c κs. search needs)
     (λ c. search needs)
     returns)
+
+pub accepted-spec : {M : Type 1} → statement M
+accepted-spec = safe returns

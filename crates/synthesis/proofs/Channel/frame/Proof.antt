@@ -20,8 +20,9 @@ returns-2 c =
     let a = c .before .before .before .before .before .before .before .before .before .before .args in
     taken (a .self) (lent (a .lines .now) (a .samples .now)) (sym (c .before .before .before .before .before .before .refusal .ensures .0) ∙ c .before .before .before .before .if1 .left) ∙ c .before .before .accepted .ensures
 
-pub frame-spec : {M : Type 1} → statement M
-frame-spec =
+-- the needs without a name, for any answer: a wrong one hides none of them
+safe : tie.Need-returns → tie.Need-returns-2 → {M : Type 1} → statement M
+safe returns returns-2 =
     tie.close
     (tie.spec
     (λ c κs. search needs)
@@ -30,3 +31,6 @@ frame-spec =
     accepted-requires
     (λ c. search needs)
     returns-2)
+
+pub frame-spec : {M : Type 1} → statement M
+frame-spec = safe returns returns-2
