@@ -3,13 +3,19 @@ import re
 from typing import NamedTuple
 
 FUNCTION = re.compile(r'^( *)(pub )?(?:extern "C" )?fn (\w+)')
+ANY = re.compile(r'^ *(?:[\w()]+ |"C" )*fn \w')
+
+
+class Unknown(Exception):
+    """A form that is not read here."""
 
 
 class Function(NamedTuple):
-    """A function's name, as `f` or `S.f`, whether it is public, and the words of its clauses."""
+    """A function's name, as `f` or `S.f`, whether it is public, the words of its clauses, and the comment above it."""
     name: str
     public: bool
     clauses: frozenset
+    comment: str
 
 
 def clauses(lines, indent):
@@ -24,6 +30,16 @@ def clauses(lines, indent):
     return frozenset(found)
 
 
+def comment(lines):
+    """The comment at the end of the lines before a function, attributes aside."""
+    found = []
+    for line in reversed(lines):
+        if not line.strip().startswith(('//', '#[')):
+            break
+        found.insert(0, line.strip().removeprefix('//').strip())
+    return ' '.join(found)
+
+
 def functions(text):
     """Each function of a file."""
     owner, lines = None, text.split('\n')
@@ -33,4 +49,6 @@ def functions(text):
         found = FUNCTION.match(line)
         if found:
             indent, public, name = found.groups()
-            yield Function(f'{owner}.{name}' if owner else name, public is not None, clauses(lines[number:], indent))
+            yield Function(f'{owner}.{name}' if owner else name, public is not None, clauses(lines[number:], indent), comment(lines[:number]))
+        elif ANY.match(line):
+            raise Unknown(f'a function that is not read: {line.strip()}')

@@ -1,6 +1,7 @@
 -- What waits in the buffer. That it was written no contract says. Definitions only.
-use Prim.Native.Nat.{ℕ, _+_, _-_, _≤_, min}
+use Prim.Native.Nat.{ℕ, _+_, _-_, _^_, _≤_, min}
 use mathlib.Core.Path.{_≡_}
+use mathlib.Core.Logic.{_⊎_}
 use mathlib.Core.Bool.{true, false, cond}
 use mathlib.Core.List.{List}
 use lib.Dec.{ltb}
@@ -8,6 +9,7 @@ use lib.ListN.{length}
 use lib.Seq.{paste}
 use Rattle.listing.specs.declared.line.Text.{Text}
 use Rattle.lmf_list.specs.declared.Output.{Output}
+use Rattle.lmf_list.specs.declared.Ending.{Ending}
 
 -- how many of n waiting bytes still wait once there is room for a line: all, or none, where the room was too little and they went out
 abbrev pub waiting : ℕ → ℕ → ℕ
@@ -25,3 +27,8 @@ pub record Put (before : List ℕ) (n : ℕ) (t : Text) (r : Output) (after : Li
   pub within : r .len ≤ length after
   pub bytes : after ≡ paste before (waiting (length before) n) (t .bytes) (min (t .len) 64)
   pub ok : ltb (length before - n) 64 ≡ false → r .ok ≡ true
+
+-- the end of a listing whose reads and writes went well: its last line, after which no bytes were used, or as many frames as can be counted
+pub record Ended (r : Ending) (after : List ℕ) : Type 0 where
+  pub within : r .output .len ≤ length after
+  pub last : r .turn .input .ok ≡ true → r .output .ok ≡ true → (r .turn .stepped .used ≡ 0) ⊎ (r .turn .stepped .lister .count ≡ 2 ^ 64 - 1)

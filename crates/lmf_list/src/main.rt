@@ -5,7 +5,7 @@ ghost use Prim.Native.Nat.{_+_, _≤_};
 ghost use lib.ListN.{length, take};
 ghost use Rattle.listing.specs.Steps as steps;
 ghost use Rattle.lmf_list.specs.Reading.{brought, Came, Filled, Next};
-ghost use Rattle.lmf_list.specs.Writing.{Room, Put};
+ghost use Rattle.lmf_list.specs.Writing.{Room, Put, Ended};
 use listing::Lister;
 use listing::Stepped;
 use listing::Text;
@@ -27,6 +27,12 @@ struct Output {
 struct Turn {
     stepped: Stepped,
     input: Input,
+}
+
+// How a listing ended: the step that was its last, and what still waits to be written.
+struct Ending {
+    turn: Turn,
+    output: Output,
 }
 
 // What a read has brought that put bytes to the places from `at` to `end`, or failed.
@@ -140,35 +146,34 @@ fn next(lister: Lister, room: &mut [u8]) -> Turn
     step(lister, &mut room[..want])
 }
 
-// Line after line, to the last. A proved loop has to end, and nothing says that a file does: it counts its turns down.
-fn lines(out: &mut [u8]) -> Output
+// Line after line, to the last. A proved loop has to end, and nothing says that a file does: no more frames are listed than can be counted.
+fn lines(out: &mut [u8]) -> Ending
     requires { ⌜ 64 ≤ length (now out) ⌝ }
-    ensures { λ r. ⌜ r .len ≤ length (now (out .exit)) ⌝ }
+    ensures { λ r. ⌜ Ended r (now (out .exit)) ⌝ }
 {
     let mut header = [0u8; 6];
     let mut room = [0u8; 960]; // the longest frame's bytes
     let mut turn = open(&mut header);
     let mut output = Output { len: 0, ok: true };
-    let mut turns = u64::MAX;
-    while turns > 0 && turn.input.ok && output.ok {
+    while turn.input.ok && output.ok {
         let stepped = turn.stepped;
         let text = stepped.text;
         let n = output.len;
         output = emit(out, n, text);
-        if stepped.used == 0 {
+        let lister = stepped.lister;
+        if stepped.used == 0 || lister.count == u64::MAX {
             break;
         }
-        let lister = stepped.lister;
         turn = next(lister, &mut room);
-        turns -= 1;
     }
-    output
+    Ending { turn, output }
 }
 
 // A read that fails is told on standard error and ends the listing with no last line; after a write that failed, which is told there too, nothing more is written.
 fn main() {
     let mut out = io::buffer();
-    let output = lines(&mut out);
+    let ending = lines(&mut out);
+    let output = ending.output;
     if output.ok {
         let n = output.len;
         flush(&out, n);

@@ -87,6 +87,7 @@ papers =
             eq-eqb (first passes7 l) (length l) (sym (first-none passes7 l nan (λ k i. zero-passes (getD l k nan) (z k i)))),
             eq-eqb (first silent l) (length l) (sym (first-none silent l nan z)),
           );
+      loud = λ l h p z. rw (h, eq-eqb (first passes7 l) (length l) p, ne-eqb (first silent l) (length l) (λ e. omega arith));
       short-file = λ f h. rw (lt-ltb (length f) 6 h);
       bad-mark = λ f h n. rw (le-ltb (length f) 6 h, lmf-not f h n);
       bad-version = λ f h e n. rw (le-ltb (length f) 6 h, lmf-is f e, ne-eqb (short f 3) 1 n);

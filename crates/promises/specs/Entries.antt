@@ -133,9 +133,9 @@ module _ (w : World) (T : Ended) (c : (𝓤 : URA (w .M)) → Heap 𝓤 → Atom
   abbrev pub says : (κs : Lfts (T .signature .lifetimes)) (a : Args (T .signature) κs) → here κs a .ghost → Answer T κs a → Pr w
   says κs a g x = here κs a .ensures g (x .0) (atExit T κs a (x .1))
 
-  -- its `requires` holds of every call, out of nothing
+  -- a call wants no ghost value that it could not have, and its `requires` holds of every call, out of nothing
   abbrev pub AsksNothing : Type 1
-  AsksNothing = (κs : Lfts (T .signature .lifetimes)) (a : Args (T .signature) κs) (g : here κs a .ghost) → ent (w .𝓤) (emp (w .𝓤)) (here κs a .requires g)
+  AsksNothing = (κs : Lfts (T .signature .lifetimes)) (a : Args (T .signature) κs) → here κs a .ghost × ((g : here κs a .ghost) → ent (w .𝓤) (emp (w .𝓤)) (here κs a .requires g))
 
   -- where its `ensures` holds of two answers to one call, what they show is equal
   abbrev pub OneAnswerOf : (X : (κs : Lfts (T .signature .lifetimes)) → Args (T .signature) κs → Type 0)

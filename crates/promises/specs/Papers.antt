@@ -2,7 +2,7 @@
 use Prim.Native.Nat.{ℕ, _*_, _≤_, _<_}
 use mathlib.Core.Path.{_≡_}
 use mathlib.Core.Bool.{true, false}
-use mathlib.Core.Option.{none}
+use mathlib.Core.Option.{some, none}
 use mathlib.Core.List.{List, [], _∷_}
 use lib.ListN.{length, getD, take}
 use lib.Ieee.{Float, nan}
@@ -10,13 +10,13 @@ use Rattle.laws.specs.Lists.{first}
 use Rattle.laws.specs.Passes.{passes7}
 use Rattle.config.specs.Config.{largest, nf, among, bandCounts}
 use Rattle.config.specs.Refusals.{accepted, badConfig, badEnergies, badEnergy, shortFile, badMark, badVersion, cutFrame}
-use Rattle.loudest.specs.Loudest.{silent, heard, paper}
+use Rattle.loudest.specs.Loudest.{silent, best, heard, paper}
 use Rattle.frame_file.specs.File.{lmf, byte, short, headerOf, recordOf}
 use Rattle.frame_file.specs.Paper.{Paper, headerPaper, recordPaper}
 use Rattle.call_log.specs.Log as log
 use Rattle.call_log.specs.Paper as logPaper
 
--- what a file's header is told
+-- what is told of a file's header
 abbrev pub ofFile : List ℕ → Paper
 ofFile f = headerPaper (headerOf lmf f)
 
@@ -24,11 +24,11 @@ ofFile f = headerPaper (headerOf lmf f)
 abbrev pub ofRest : ℕ → List ℕ → Paper
 ofRest c f = recordPaper (recordOf c f)
 
--- what a log's header is told
+-- what is told of a log's header
 abbrev pub ofLog : List ℕ → Paper
 ofLog b = logPaper.headerPaper (log.headerOf b)
 
--- how many bytes the call at their front is told to take
+-- how many bytes the call at their front is said to take
 abbrev pub ofCall : List ℕ → List ℕ
 ofCall b = logPaper.takenValues (log.callTaken b)
 
@@ -50,9 +50,12 @@ pub record Papers : Type 0 where
   -- of 60 or 64 of which one does not pass: 7, with the first such index and no values
   pub bad-energy : (l : List Float) → among bandCounts (length l) ≡ true → first passes7 l < length l
       → paper (heard l) ≡ record { number = badEnergy; index = first passes7 l; values = none }
-  -- of 60 or 64 zeros: 0 and no values. What a loud answer's values are is `p12-any` of P
+  -- of 60 or 64 zeros: 0 and no values
   pub quiet : (l : List Float) → among bandCounts (length l) ≡ true → ((k : ℕ) → k < length l → silent (getD l k nan) ≡ true)
       → paper (heard l) ≡ record { number = accepted; index = 0; values = none }
+  -- of 60 or 64 that pass, of which one is not zero: 0, with the scan's band and its energy, which `p12-any` of P says is the first with the greatest
+  pub loud : (l : List Float) → among bandCounts (length l) ≡ true → first passes7 l ≡ length l → first silent l < length l
+      → paper (heard l) ≡ record { number = accepted; index = 0; values = some (best l (length l), getD l (best l (length l)) nan) }
   -- a file shorter than 6 bytes: 8
   pub short-file : (f : List ℕ) → length f < 6 → ofFile f ≡ alone shortFile
   -- 6 bytes or more, the first three not `LMF`: 9
