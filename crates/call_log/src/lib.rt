@@ -87,13 +87,13 @@ pub fn count_floats(b: &[u8], room: &[f32]) -> usize
     if n < room.len() { n } else { room.len() }
 }
 
-// The same of a room for samples.
-pub fn count_samples(b: &[u8], room: &[i16]) -> usize
-    ensures { λ r. ⌜ r ≡ min (short (now (b .entry))) (length (now (room .entry))) ⌝ }
-    ensures { λ r. ⌜ Places r (now (room .entry)) ⌝ }
+// The same of places for samples.
+pub fn count_samples(b: &[u8], places: &[i16]) -> usize
+    ensures { λ r. ⌜ r ≡ min (short (now (b .entry))) (length (now (places .entry))) ⌝ }
+    ensures { λ r. ⌜ Places r (now (places .entry)) ⌝ }
 {
     let n = short(b) as usize;
-    if n < room.len() { n } else { room.len() }
+    if n < places.len() { n } else { places.len() }
 }
 
 // The samples after the count at the front of b, as many as out has places.

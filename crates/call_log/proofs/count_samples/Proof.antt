@@ -11,10 +11,10 @@ cast-n : tie.Need-cast-n
 cast-n c = search needs
 
 returns : tie.Need-returns
-returns c = fewer _ _ (c .before .before .before .args .room .now) (c .before .short .ensures) (c .if1 .taken)
+returns c = fewer _ _ (c .before .before .before .args .places .now) (c .before .short .ensures) (c .if1 .taken)
 
 returns-2 : tie.Need-returns-2
-returns-2 c = all _ _ (c .before .before .before .args .room .now) (c .before .short .ensures) (c .if1 .left)
+returns-2 c = all _ _ (c .before .before .before .args .places .now) (c .before .short .ensures) (c .if1 .left)
 
 pub count-samples-spec : {M : Type 1} → statement M
 count-samples-spec = tie.close (tie.spec short-requires cast-n returns returns-2)
