@@ -12,6 +12,7 @@ pub struct Text {
     pub len: usize,
 }
 
+// A line with nothing in it yet.
 pub fn blank() -> Text
     ensures { λ r. ⌜ r ≡ blank ⌝ }
 {

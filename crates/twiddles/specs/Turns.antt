@@ -47,5 +47,5 @@ minusZeroThenTiny (b ∷ bs) = eqb b 0x80000000 && allTiny bs
 pub record Turns : Type 0 where
   -- at each size these parts have the bits that the Rust computes
   pub turns-are : map turnBits sizes ≡ rustTurns
-  -- at each size the imaginary part at no turn is -0.0, and the parts at a quarter, half and three quarters of a turn are tiny and not 0
+  -- at each size the imaginary part at no turn is -0.0, and the parts at half a turn, and at a quarter and three quarters where there are such, are tiny and not 0
   pub turns-tiny : (n : ℕ) → T (among sizes n) → T (minusZeroThenTiny (turnBits n))

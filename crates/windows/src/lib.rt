@@ -1,5 +1,5 @@
 // The windows of the configurations as bits, and the reading of one entry.
-// The bits are liblc3's, as data/README.md says; names and lengths are those that lc3-codec 0.2.0 has in src/tables/mdct_windows.rs, with functions in
+// The bits are liblc3's, as data/README.md says; the names are those by which lc3-codec 0.2.0 uses its windows (src/encoder/modified_dct.rs), of functions in
 // place of constants.
 ghost use mathlib.Core.Path.{_≡_};
 ghost use Prim.Native.Nat.{_<_};
