@@ -19,6 +19,7 @@ brought at end false = record { len = end; more = ltb at end; ok = true }
 
 -- one read: the slice before it, its place, what is known, the slice after it
 pub record Came (before : List ℕ) (at : ℕ) (r : Input) (after : List ℕ) : Type 0 where
+  -- what is known begins with what was known before, and ends inside the slice
   pub from : at ≤ r .len
   pub within : r .len ≤ length after
   -- what was read before stays
@@ -28,13 +29,18 @@ pub record Came (before : List ℕ) (at : ℕ) (r : Input) (after : List ℕ) : 
   -- a read that fails brings nothing
   pub failed : r .ok ≡ false → r .len ≡ at
 
--- reads until the slice is full, or the input has ended or a read failed: where more may come, it is full
+-- reads until the slice is full, or the input has ended or a read failed
 pub record Filled (r : Input) (after : List ℕ) : Type 0 where
+  -- what was read is a part of the slice, from its start
   pub counts : Counts (r .len) after
+  -- more may come only where no place is left for it
   pub full : r .more ≡ true → r .len ≡ length after
 
--- the step after a record's bytes: it is handed those of the room that were read, no more than a frame's, and where more may come, a whole frame's
+-- a record's step, on bytes that were read to the front of a room
 pub record Next (l : Lister) (r : Turn) (room : List ℕ) : Type 0 where
+  -- it is handed those of the room that were read, and no others
   pub stepped : r .stepped ≡ step l (take (r .input .len) room)
+  -- no more than a frame's, so that the next frame is not touched
   pub most : r .input .len ≤ frameBytes (l .channel .config)
+  -- and a whole frame's where more may come
   pub full : r .input .more ≡ true → r .input .len ≡ frameBytes (l .channel .config)
