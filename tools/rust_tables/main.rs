@@ -10,7 +10,7 @@ use crate::taken;
 use crate::tables::band_index_tables::*;
 use crate::tables::mdct_windows::*;
 
-const SIZES: [usize; 9] = [30, 40, 60, 80, 90, 120, 160, 180, 240];
+const SIZES: [usize; 11] = [10, 20, 30, 40, 60, 80, 90, 120, 160, 180, 240];
 
 fn print_bits(name: &str, size: usize, values: impl Iterator<Item = f32>) {
     let bits: Vec<String> = values.map(|v| format!("{:08x}", v.to_bits())).collect();

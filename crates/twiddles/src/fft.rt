@@ -2,6 +2,86 @@
 ghost use mathlib.Core.Path.{_≡_};
 ghost use Rattle.twiddles.specs.Twiddles.{fftTable};
 
+const FFT_10: [f32; 20] = [
+    1.0, // 10, no turn
+    0.809017,
+    0.309017,
+    -0.309017,
+    -0.809017,
+    -1.0, // 10, half a turn
+    -0.809017,
+    -0.309017,
+    0.309017,
+    0.809017,
+    -0.0, // 10, no turn
+    -0.58778524,
+    -0.95105654,
+    -0.95105654,
+    -0.58778524,
+    -1.2246469e-16, // 10, half a turn
+    0.58778524,
+    0.95105654,
+    0.95105654,
+    0.58778524,
+];
+
+// Entry. The FFT's twiddles of size 10: the real parts, then the imaginary parts.
+pub fn fft_10() -> [f32; 20]
+    ensures { λ r. ⌜ r ≡ fftTable 10 ⌝ }
+{
+    FFT_10
+}
+
+const FFT_20: [f32; 40] = [
+    1.0, // 20, no turn
+    0.95105654,
+    0.809017,
+    0.58778524,
+    0.309017,
+    6.123234e-17, // 20, a quarter turn
+    -0.309017,
+    -0.58778524,
+    -0.809017,
+    -0.95105654,
+    -1.0, // 20, half a turn
+    -0.95105654,
+    -0.809017,
+    -0.58778524,
+    -0.309017,
+    -1.8369701e-16, // 20, three quarters
+    0.309017,
+    0.58778524,
+    0.809017,
+    0.95105654,
+    -0.0, // 20, no turn
+    -0.309017,
+    -0.58778524,
+    -0.809017,
+    -0.95105654,
+    -1.0, // 20, a quarter turn
+    -0.95105654,
+    -0.809017,
+    -0.58778524,
+    -0.309017,
+    -1.2246469e-16, // 20, half a turn
+    0.309017,
+    0.58778524,
+    0.809017,
+    0.95105654,
+    1.0, // 20, three quarters
+    0.95105654,
+    0.809017,
+    0.58778524,
+    0.309017,
+];
+
+// Entry. The FFT's twiddles of size 20: the real parts, then the imaginary parts.
+pub fn fft_20() -> [f32; 40]
+    ensures { λ r. ⌜ r ≡ fftTable 20 ⌝ }
+{
+    FFT_20
+}
+
 const FFT_30: [f32; 60] = [
     1.0, // 30, no turn
     0.9781476,

@@ -51,7 +51,47 @@ returns-10 c = search needs
 
 returns-11 : tie.Need-returns-11
 unfolding row rows
-returns-11 c = rw (List·getD-eq-default rows none (others-le 10 (c .before .args .c) (c .match .rest))) (refl, refl, refl, refl, refl, refl, refl)
+returns-11 c = search needs
+
+returns-12 : tie.Need-returns-12
+unfolding row rows
+returns-12 c = search needs
+
+returns-13 : tie.Need-returns-13
+unfolding row rows
+returns-13 c = search needs
+
+returns-14 : tie.Need-returns-14
+unfolding row rows
+returns-14 c = search needs
+
+returns-15 : tie.Need-returns-15
+unfolding row rows
+returns-15 c = search needs
+
+returns-16 : tie.Need-returns-16
+unfolding row rows
+returns-16 c = search needs
+
+returns-17 : tie.Need-returns-17
+unfolding row rows
+returns-17 c = search needs
+
+returns-18 : tie.Need-returns-18
+unfolding row rows
+returns-18 c = search needs
+
+returns-19 : tie.Need-returns-19
+unfolding row rows
+returns-19 c = search needs
+
+returns-20 : tie.Need-returns-20
+unfolding row rows
+returns-20 c = search needs
+
+returns-21 : tie.Need-returns-21
+unfolding row rows
+returns-21 c = rw (List·getD-eq-default rows none (others-le 20 (c .before .args .c) (c .match .rest))) (refl, refl, refl, refl, refl, refl, refl)
 
 pub row-spec : {M : Type 1} → statement M
-row-spec = tie.close (tie.spec returns returns-2 returns-3 returns-4 returns-5 returns-6 returns-7 returns-8 returns-9 returns-10 returns-11)
+row-spec = tie.close (tie.spec returns returns-2 returns-3 returns-4 returns-5 returns-6 returns-7 returns-8 returns-9 returns-10 returns-11 returns-12 returns-13 returns-14 returns-15 returns-16 returns-17 returns-18 returns-19 returns-20 returns-21)

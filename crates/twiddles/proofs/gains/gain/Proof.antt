@@ -46,7 +46,15 @@ returns-9 c = ap gain (sym (c .match .keys9))
 
 returns-10 : tie.Need-returns-10
 unfolding gain sizes gainBits
-returns-10 c = ap (ofBits binary32) (sym (look-none lengths gainBits (c .before .args .nf) Unit (c .match .rest)))
+returns-10 c = ap gain (sym (c .match .keys10))
+
+returns-11 : tie.Need-returns-11
+unfolding gain sizes gainBits
+returns-11 c = ap gain (sym (c .match .keys11))
+
+returns-12 : tie.Need-returns-12
+unfolding gain sizes gainBits
+returns-12 c = ap (ofBits binary32) (sym (look-none lengths gainBits (c .before .args .nf) Unit (c .match .rest)))
 
 pub gain-spec : {M : Type 1} → statement M
-gain-spec = tie.close (tie.spec returns returns-2 returns-3 returns-4 returns-5 returns-6 returns-7 returns-8 returns-9 returns-10)
+gain-spec = tie.close (tie.spec returns returns-2 returns-3 returns-4 returns-5 returns-6 returns-7 returns-8 returns-9 returns-10 returns-11 returns-12)
