@@ -44,6 +44,16 @@ pub fn lines_of(c: u8, past: &[i16], input: &[i16], lines: &mut [f32])
         6 => lines_with(c, &windows::w_n160_10ms(), past, input, lines),
         7 => lines_with(c, &windows::w_n240_10ms(), past, input, lines),
         8 => lines_with(c, &windows::w_n320_10ms(), past, input, lines),
-        _ => lines_with(c, &windows::w_n480_10ms(), past, input, lines),
+        9 => lines_with(c, &windows::w_n480_10ms(), past, input, lines),
+        10 => lines_with(c, &windows::w_n40_5ms(), past, input, lines),
+        11 => lines_with(c, &windows::w_n80_5ms(), past, input, lines),
+        12 => lines_with(c, &windows::w_n120_5ms(), past, input, lines),
+        13 => lines_with(c, &windows::w_n160_5ms(), past, input, lines),
+        14 => lines_with(c, &windows::w_n240_5ms(), past, input, lines),
+        15 => lines_with(c, &windows::w_n20_2p5ms(), past, input, lines),
+        16 => lines_with(c, &windows::w_n40_2p5ms(), past, input, lines),
+        17 => lines_with(c, &windows::w_n60_2p5ms(), past, input, lines),
+        18 => lines_with(c, &windows::w_n80_2p5ms(), past, input, lines),
+        _ => lines_with(c, &windows::w_n120_2p5ms(), past, input, lines),
     }
 }

@@ -109,5 +109,5 @@ sound c v =
     }
 
 -- the last arm of a match on the configurations has the last of them
-pub last-config : (c : ℕ) → T (valid c) → Others 9 c → c ≡ 9
-last-config c v r = let h = others-le 9 c r in let l = valid-lt c v in omega arith
+pub last-config : (c : ℕ) → T (valid c) → Others largest c → c ≡ largest
+last-config c v r = let h = others-le largest c r in let l = valid-lt c v in omega arith

@@ -1,4 +1,4 @@
--- The configurations of document 01 and their columns (config.rs, band_index_tables.rs). Definitions only.
+-- The configurations of document 01, then those of document 02 §1, and their columns (config.rs, band_index_tables.rs). Definitions only.
 use mathlib.Core.Bool.{Bool, false, _||_}
 use mathlib.Core.List.{List, [], _∷_, map}
 use Prim.Native.Nat.{ℕ, _/_}
@@ -7,15 +7,15 @@ use lib.ListN.{getD, replicate}
 use Rattle.config.specs.declared.Lc3Config.{Lc3Config}
 use Rattle.config.specs.Tables.{rows, edgeRows}
 
--- "configuration above 9": the one place that knows the largest configuration
+-- "configuration above 9", and by document 02 §1 "1 now begins at 20": the one place that knows the largest configuration
 abbrev pub largest : ℕ
-largest = 9
+largest = 19
 
 abbrev pub valid : ℕ → Bool
 valid c = leb c largest
 
 abbrev pub configs : List ℕ
-configs = 0 ∷ 1 ∷ 2 ∷ 3 ∷ 4 ∷ 5 ∷ 6 ∷ 7 ∷ 8 ∷ 9 ∷ []
+configs = 0 ∷ 1 ∷ 2 ∷ 3 ∷ 4 ∷ 5 ∷ 6 ∷ 7 ∷ 8 ∷ 9 ∷ 10 ∷ 11 ∷ 12 ∷ 13 ∷ 14 ∷ 15 ∷ 16 ∷ 17 ∷ 18 ∷ 19 ∷ []
 
 -- what a number that is no configuration gets: 0 in every column
 abbrev pub none : Lc3Config
@@ -66,13 +66,13 @@ abbrev pub among : List ℕ → ℕ → Bool
 among [] n = false
 among (x ∷ xs) n = eqb x n || among xs n
 
--- "FFT size or DCT length not of the table above"
+-- "FFT size or DCT length not of the table above"; "2 accepts the new sizes" (document 02 §1)
 unfoldable pub fftSizes : List ℕ
 fftSizes = map half configs
 
 unfoldable pub dctLengths : List ℕ
 dctLengths = map nf configs
 
--- "energies of another length than nb (loudest band, which isn't told the configuration: than 60 or 64)"
+-- "energies of another length than nb (loudest band, which isn't told the configuration: than 60 or 64)"; "5 at the loudest band every nb" (document 02 §1)
 unfoldable pub bandCounts : List ℕ
 bandCounts = map nb configs

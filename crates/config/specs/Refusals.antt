@@ -8,7 +8,7 @@ use Rattle.config.specs.declared.Verdict.{Verdict}
 abbrev pub accepted : ℕ
 accepted = 0
 
--- "configuration above 9"
+-- "configuration above 9"; "1 now begins at 20" (document 02 §1)
 abbrev pub badConfig : ℕ
 badConfig = 1
 
@@ -24,7 +24,7 @@ badInput = 3
 abbrev pub badOutput : ℕ
 badOutput = 4
 
--- "energies of another length than nb (loudest band, which isn't told the configuration: than 60 or 64)"
+-- "energies of another length than nb (loudest band, which isn't told the configuration: than 60 or 64)"; "5 at the loudest band every nb" (document 02 §1)
 abbrev pub badEnergies : ℕ
 badEnergies = 5
 

@@ -31,7 +31,7 @@ pub struct Verdict {
 pub fn valid(c: u8) -> bool
     ensures { λ r. ⌜ r ≡ valid c ⌝ }
 {
-    c <= 9
+    c <= 19
 }
 
 // Entry. The samples of a frame.

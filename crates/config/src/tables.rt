@@ -3,11 +3,74 @@ use crate::Lc3Config;
 ghost use mathlib.Core.Path.{_≡_};
 ghost use Rattle.config.specs.Config.{rate, ne, duration, nb, nf, z, upper, edges};
 
-pub const FFT_SIZES: [usize; 20] = [30, 60, 90, 120, 180, 40, 80, 120, 160, 240, 20, 40, 60, 80, 120, 10, 20, 30, 40, 60];
+pub const FFT_SIZES: [usize; 20] = [
+    30,
+    60,
+    90,
+    120,
+    180,
+    40,
+    80,
+    120,
+    160,
+    240,
+    20,
+    40,
+    60,
+    80,
+    120,
+    10,
+    20,
+    30,
+    40,
+    60,
+];
 
-pub const DCT_LENGTHS: [usize; 20] = [60, 120, 180, 240, 360, 80, 160, 240, 320, 480, 40, 80, 120, 160, 240, 20, 40, 60, 80, 120];
+pub const DCT_LENGTHS: [usize; 20] = [
+    60,
+    120,
+    180,
+    240,
+    360,
+    80,
+    160,
+    240,
+    320,
+    480,
+    40,
+    80,
+    120,
+    160,
+    240,
+    20,
+    40,
+    60,
+    80,
+    120,
+];
 
-pub const BAND_COUNTS: [usize; 20] = [60, 64, 64, 64, 64, 64, 64, 64, 64, 64, 39, 50, 52, 54, 55, 20, 35, 40, 43, 44];
+pub const BAND_COUNTS: [usize; 20] = [
+    60,
+    64,
+    64,
+    64,
+    64,
+    64,
+    64,
+    64,
+    64,
+    64,
+    39,
+    50,
+    52,
+    54,
+    55,
+    20,
+    35,
+    40,
+    43,
+    44,
+];
 
 // The row of a configuration, and zeros for a number that is none.
 pub fn row(c: u8) -> Lc3Config

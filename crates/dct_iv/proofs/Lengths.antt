@@ -66,7 +66,7 @@ area c r e h =
 
 -- the last arm of a match on the lengths: none of the shorter ones
 abbrev shorter : List ℕ
-shorter = 60 ∷ 80 ∷ 120 ∷ 160 ∷ 180 ∷ 240 ∷ 320 ∷ 360 ∷ []
+shorter = 20 ∷ 40 ∷ 60 ∷ 80 ∷ 120 ∷ 160 ∷ 180 ∷ 240 ∷ 320 ∷ 360 ∷ []
 
 ends : T (every (λ k n. among shorter n || eqb 480 n) 0 dctLengths)
 unfolding dctLengths row rows

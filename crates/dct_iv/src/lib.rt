@@ -18,6 +18,8 @@ use complex::get;
 use complex::put;
 use config::Verdict;
 use kf_work::transform;
+use twiddles::dct_10;
+use twiddles::dct_20;
 use twiddles::dct_30;
 use twiddles::dct_40;
 use twiddles::dct_60;
@@ -27,6 +29,8 @@ use twiddles::dct_120;
 use twiddles::dct_160;
 use twiddles::dct_180;
 use twiddles::dct_240;
+use twiddles::fft_10;
+use twiddles::fft_20;
 use twiddles::fft_30;
 use twiddles::fft_40;
 use twiddles::fft_60;
@@ -119,6 +123,8 @@ pub fn run(buf: &mut [f32])
     ensures { λ _. ⌜ now (buf .exit) ≡ dctIv (now (buf .entry)) ⌝ }
 {
     match buf.len() {
+        20 => by(buf, &dct_10(), &fft_10()),
+        40 => by(buf, &dct_20(), &fft_20()),
         60 => by(buf, &dct_30(), &fft_30()),
         80 => by(buf, &dct_40(), &fft_40()),
         120 => by(buf, &dct_60(), &fft_60()),

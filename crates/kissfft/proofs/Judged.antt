@@ -24,7 +24,7 @@ use Rattle.kissfft.specs.Fft.{firstBad, number, verdict, left, answer}
 
 -- the last arm of a match on the sizes: none of the smaller ones
 abbrev smaller : List ℕ
-smaller = 30 ∷ 40 ∷ 60 ∷ 80 ∷ 90 ∷ 120 ∷ 160 ∷ 180 ∷ []
+smaller = 10 ∷ 20 ∷ 30 ∷ 40 ∷ 60 ∷ 80 ∷ 90 ∷ 120 ∷ 160 ∷ 180 ∷ []
 
 ends : T (every (λ k n. among smaller n || eqb 240 n) 0 fftSizes)
 unfolding fftSizes half row rows

@@ -14,6 +14,8 @@ ghost use Rattle.kf_work.specs.Work.{spectrum, reals, imaginaries};
 ghost use Rattle.kissfft.specs.Fft.{firstBad, verdict, left, answer};
 use config::Verdict;
 use kf_work::transform;
+use twiddles::fft_10;
+use twiddles::fft_20;
 use twiddles::fft_30;
 use twiddles::fft_40;
 use twiddles::fft_60;
@@ -115,6 +117,8 @@ fn run(re: &mut [f32], im: &mut [f32], x: &[f32], y: &[f32], inverse: bool)
     ensures { λ _. ⌜ (now (re .exit) ≡ reals (length (now (x .entry))) (spectrum (twiddle (length (now (x .entry))) inverse) inverse (length (now (x .entry))) (at (now (x .entry)) (now (y .entry))))) × (now (im .exit) ≡ imaginaries (length (now (x .entry))) (spectrum (twiddle (length (now (x .entry))) inverse) inverse (length (now (x .entry))) (at (now (x .entry)) (now (y .entry))))) ⌝ }
 {
     match x.len() {
+        10 => directed(re, im, x, y, &mut fft_10(), inverse),
+        20 => directed(re, im, x, y, &mut fft_20(), inverse),
         30 => directed(re, im, x, y, &mut fft_30(), inverse),
         40 => directed(re, im, x, y, &mut fft_40(), inverse),
         60 => directed(re, im, x, y, &mut fft_60(), inverse),

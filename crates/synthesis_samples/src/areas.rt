@@ -1,7 +1,20 @@
 // t_hat_mdct: a work area of 2 nf places for each frame length. An area of the right size costs a short frame less than one of the greatest.
+// Written by tools/tables.
 ghost use mathlib.Core.Path.{_≡_};
 ghost use lib.ListN.{replicate};
 ghost use Rattle.laws.specs.Numbers.{zero32};
+
+pub fn t_hat_20() -> [f32; 40]
+    ensures { λ r. ⌜ r ≡ replicate 40 zero32 ⌝ }
+{
+    [0.0f32; 40]
+}
+
+pub fn t_hat_40() -> [f32; 80]
+    ensures { λ r. ⌜ r ≡ replicate 80 zero32 ⌝ }
+{
+    [0.0f32; 80]
+}
 
 pub fn t_hat_60() -> [f32; 120]
     ensures { λ r. ⌜ r ≡ replicate 120 zero32 ⌝ }

@@ -23,6 +23,8 @@ turnBits n =
 -- "A quarter-turn twiddle's real part is tiny and not 0"
 unfoldable pub rustTurns : List (List ℕ)
 rustTurns =
+    (0x80000000 ∷ 0xa50d3132 ∷ []) ∷
+    (0x80000000 ∷ 0xa50d3132 ∷ 0x248d3132 ∷ 0xa553c9ca ∷ []) ∷
     (0x80000000 ∷ 0xa6234c4c ∷ []) ∷
     (0x80000000 ∷ 0xa50d3132 ∷ 0x248d3132 ∷ 0xa553c9ca ∷ []) ∷
     (0x80000000 ∷ 0xa6234c4c ∷ 0x25a34c4c ∷ 0xa553c9ca ∷ []) ∷

@@ -9,6 +9,8 @@ mod fft; // fft.rt: the FFT's twiddles
 mod dct; // dct.rt: the DCT's twiddles
 mod gains; // gains.rt: the gains
 
+pub use dct::dct_10;
+pub use dct::dct_20;
 pub use dct::dct_30;
 pub use dct::dct_40;
 pub use dct::dct_60;
@@ -18,6 +20,8 @@ pub use dct::dct_120;
 pub use dct::dct_160;
 pub use dct::dct_180;
 pub use dct::dct_240;
+pub use fft::fft_10;
+pub use fft::fft_20;
 pub use fft::fft_30;
 pub use fft::fft_40;
 pub use fft::fft_60;

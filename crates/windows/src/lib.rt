@@ -9,11 +9,21 @@ ghost use Rattle.windows.specs.Windows.{Numbers};
 
 mod tables; // tables.rt: a table for each configuration
 
+pub use tables::w_n20_2p5ms;
+pub use tables::w_n40_2p5ms;
+pub use tables::w_n40_5ms;
+pub use tables::w_n60_2p5ms;
 pub use tables::w_n60_7p5ms;
+pub use tables::w_n80_2p5ms;
+pub use tables::w_n80_5ms;
 pub use tables::w_n80_10ms;
+pub use tables::w_n120_2p5ms;
+pub use tables::w_n120_5ms;
 pub use tables::w_n120_7p5ms;
+pub use tables::w_n160_5ms;
 pub use tables::w_n160_10ms;
 pub use tables::w_n180_7p5ms;
+pub use tables::w_n240_5ms;
 pub use tables::w_n240_7p5ms;
 pub use tables::w_n240_10ms;
 pub use tables::w_n320_10ms;
