@@ -1,14 +1,16 @@
 -- What the callees ensure, put together, is the definition of the samples and the memory. Assumes nothing.
 use mathlib.Core.Path.{_≡_, sym, ap, subst, _∙_}
-use mathlib.Core.List.{List}
+use mathlib.Core.List.{List, [], _∷_}
 use Prim.Native.Nat.{ℕ, _-_, _*_, _≤_}
 use native.Mathlib.Omega.{arith}
-use lib.Dec.{T}
-use lib.ListN.{length, replicate, length-replicate}
+use lib.Dec.{T, eqb, eqb→eq}
+use lib.ListN.{length, getD, replicate, length-replicate}
 use lib.Ieee.{Float}
 use Rattle.laws.specs.Numbers.{zero32}
-use Rattle.config.specs.Config.{valid, nf, z, ne, half, among, dctLengths}
-use Rattle.config.proofs.Sound.{sound}
+use Rattle.laws.proofs.Table.{every}
+use Rattle.config.specs.Config.{valid, configs, row, nf, z, ne, half, among, dctLengths}
+use Rattle.config.specs.Tables.{rows}
+use Rattle.config.proofs.Sound.{sound, each}
 use Rattle.windows.specs.Windows.{window, Numbers}
 use Rattle.windows.proofs.Entries.{window-length, window-numbers}
 use Rattle.twiddles.specs.Twiddles.{gain}
@@ -64,14 +66,23 @@ module _ (c : ℕ) (v : T (valid c)) (x : List Float) {h k n : ℕ} {g : Float} 
   unfolding samplesOf
   made-samples past = simp (twice, ek, made-places)
 
--- what an arm owes the worker: its window and its work area are the configuration's
-pub loaded : (c k : ℕ) {w : List ℕ} {t : List Float} {l m s : ℕ} → c ≡ k → w ≡ window k → t ≡ replicate (2 * nf k) zero32 → T (valid c) × (l ≡ ne c) × (m ≡ nf c - z c) × (s ≡ nf c)
+-- the work areas: 2 nf places for each configuration
+abbrev sizes : List ℕ
+sizes = 120 ∷ 240 ∷ 360 ∷ 480 ∷ 720 ∷ 160 ∷ 320 ∷ 480 ∷ 640 ∷ 960 ∷ 80 ∷ 160 ∷ 240 ∷ 320 ∷ 480 ∷ 40 ∷ 80 ∷ 120 ∷ 160 ∷ 240 ∷ []
+
+sizes-test : T (every (λ k c. eqb (getD sizes c 0) (2 * nf c)) 0 configs)
+unfolding row rows
+sizes-test = tt
+
+-- what an arm owes the worker: its window and its work area are the configuration's; f and g are what is known of c besides
+pub loaded : {c : ℕ} (k : ℕ) {w : List ℕ} {t : List Float} {l m s : ℕ} {f g : Type 0} → c ≡ k → w ≡ window k → t ≡ replicate (getD sizes k 0) zero32
+    → T (valid c) × f × g × (l ≡ ne c) × (m ≡ nf c - z c) × (s ≡ nf c)
     → T (valid c) × (w ≡ window c) × (length t ≡ 2 * nf c) × (l ≡ ne c) × (m ≡ nf c - z c) × (s ≡ nf c)
-loaded c k e p q r = (
+loaded {c = c} k e p q r = (
   r .0,
   p ∙ ap window (sym e),
-  ap length q ∙ length-replicate (2 * nf k) zero32 ∙ ap (λ (j : ℕ). 2 * nf j) (sym e),
-  r .1,
-  r .2,
+  ap length q ∙ length-replicate (getD sizes k 0) zero32 ∙ ap (λ (j : ℕ). getD sizes j 0) (sym e) ∙ eqb→eq (getD sizes c 0) (2 * nf c) (each (λ c. eqb (getD sizes c 0) (2 * nf c)) sizes-test c (r .0)),
   r .3,
+  r .4,
+  r .5,
 )

@@ -12,38 +12,7 @@ ghost use Rattle.synthesis_steps.specs.Places.{unfolded, scaled, output, remain
 ghost use Rattle.synthesis_samples.specs.Samples.{places, placesOf, samplesOf, memoryOf};
 
 mod areas; // areas.rt: the work areas
-
-use areas::t_hat_20;
-use areas::t_hat_40;
-use areas::t_hat_60;
-use areas::t_hat_80;
-use areas::t_hat_120;
-use areas::t_hat_160;
-use areas::t_hat_180;
-use areas::t_hat_240;
-use areas::t_hat_320;
-use areas::t_hat_360;
-use areas::t_hat_480;
-use windows::w_n20_2p5ms;
-use windows::w_n40_2p5ms;
-use windows::w_n40_5ms;
-use windows::w_n60_2p5ms;
-use windows::w_n60_7p5ms;
-use windows::w_n80_2p5ms;
-use windows::w_n80_5ms;
-use windows::w_n80_10ms;
-use windows::w_n120_2p5ms;
-use windows::w_n120_5ms;
-use windows::w_n120_7p5ms;
-use windows::w_n160_5ms;
-use windows::w_n160_10ms;
-use windows::w_n180_7p5ms;
-use windows::w_n240_5ms;
-use windows::w_n240_7p5ms;
-use windows::w_n240_10ms;
-use windows::w_n320_10ms;
-use windows::w_n360_7p5ms;
-use windows::w_n480_10ms;
+mod durations; // durations.rt: a frame of each duration
 
 // The DCT of the values, unfolded, times the gain. buf is left with the DCT.
 fn apply_mdct_inverse(buf: &mut [f32], t: &mut [f32], g: f32, h: usize)
@@ -98,32 +67,16 @@ fn run_with(c: u8, w: &[u32], t: &mut [f32], lines: &[f32], memory: &mut [f32], 
     );
 }
 
-// Inner. A frame of lines and its past to samples and the next past. The window is made once, here.
+// Inner. A frame of lines and its past to samples and the next past.
 pub fn samples_of(c: u8, lines: &[f32], memory: &mut [f32], samples: &mut [f32])
     requires { ⌜ T (valid c) × (length (now lines) ≡ ne c) × (length (now memory) ≡ nf c - z c) × (length (now samples) ≡ nf c) ⌝ }
     ensures memory { λ _. ⌜ now (memory .exit) ≡ memoryOf c (now (lines .entry)) ⌝ }
     ensures samples { λ _. ⌜ now (samples .exit) ≡ samplesOf c (now (memory .entry)) (now (lines .entry)) ⌝ }
 {
     match c {
-        0 => run_with(c, &w_n60_7p5ms(), &mut t_hat_60(), lines, memory, samples),
-        1 => run_with(c, &w_n120_7p5ms(), &mut t_hat_120(), lines, memory, samples),
-        2 => run_with(c, &w_n180_7p5ms(), &mut t_hat_180(), lines, memory, samples),
-        3 => run_with(c, &w_n240_7p5ms(), &mut t_hat_240(), lines, memory, samples),
-        4 => run_with(c, &w_n360_7p5ms(), &mut t_hat_360(), lines, memory, samples),
-        5 => run_with(c, &w_n80_10ms(), &mut t_hat_80(), lines, memory, samples),
-        6 => run_with(c, &w_n160_10ms(), &mut t_hat_160(), lines, memory, samples),
-        7 => run_with(c, &w_n240_10ms(), &mut t_hat_240(), lines, memory, samples),
-        8 => run_with(c, &w_n320_10ms(), &mut t_hat_320(), lines, memory, samples),
-        9 => run_with(c, &w_n480_10ms(), &mut t_hat_480(), lines, memory, samples),
-        10 => run_with(c, &w_n40_5ms(), &mut t_hat_40(), lines, memory, samples),
-        11 => run_with(c, &w_n80_5ms(), &mut t_hat_80(), lines, memory, samples),
-        12 => run_with(c, &w_n120_5ms(), &mut t_hat_120(), lines, memory, samples),
-        13 => run_with(c, &w_n160_5ms(), &mut t_hat_160(), lines, memory, samples),
-        14 => run_with(c, &w_n240_5ms(), &mut t_hat_240(), lines, memory, samples),
-        15 => run_with(c, &w_n20_2p5ms(), &mut t_hat_20(), lines, memory, samples),
-        16 => run_with(c, &w_n40_2p5ms(), &mut t_hat_40(), lines, memory, samples),
-        17 => run_with(c, &w_n60_2p5ms(), &mut t_hat_60(), lines, memory, samples),
-        18 => run_with(c, &w_n80_2p5ms(), &mut t_hat_80(), lines, memory, samples),
-        _ => run_with(c, &w_n120_2p5ms(), &mut t_hat_120(), lines, memory, samples),
+        0..=4 => durations::of_7p5ms(c, lines, memory, samples),
+        5..=9 => durations::of_10ms(c, lines, memory, samples),
+        10..=14 => durations::of_5ms(c, lines, memory, samples),
+        _ => durations::of_2p5ms(c, lines, memory, samples),
     }
 }

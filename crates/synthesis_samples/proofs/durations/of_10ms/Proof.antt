@@ -1,0 +1,51 @@
+-- `synthesis_samples::durations::of_10ms` meets its contract: each arm has the window and the work area of its configuration, which is one law. Written by tools/tables. Assumes nothing.
+use borrow.Author.Needs.{needs}
+use Rattle.laws.proofs.Arms.{last-from}
+use Rattle.synthesis_samples.proofs.Made.{loaded}
+use Rattle.synthesis_samples.proofs.durations.of_10ms.Statement.{statement}
+use Rattle.synthesis_samples.proofs.durations.of_10ms.Tie as tie
+
+pub of-10ms-spec : {M : Type 1} → statement M
+of-10ms-spec =
+    tie.close
+    (tie.spec
+    (λ c κs. search needs)
+    (λ c. search needs)
+    (λ c κs. search needs)
+    (λ c. search needs)
+    (λ c κs. let s = c .before .before .before .before .before .before .before .before .before .before in loaded 5 (c .before .before .before .before .before .before .match .keys1) (c .before .before .before .before .before .w-n80-10ms .ensures) (c .before .before .before .t-hat-80 .ensures) (s .pre))
+    (λ c κs. search needs)
+    (λ c. search needs)
+    (λ c κs. search needs)
+    (λ c. search needs)
+    (λ c κs. let s = c .before .before .before .before .before .before .before .before .before .before in loaded 6 (c .before .before .before .before .before .before .match .keys2) (c .before .before .before .before .before .w-n160-10ms .ensures) (c .before .before .before .t-hat-160 .ensures) (s .pre))
+    (λ c κs. search needs)
+    (λ c. search needs)
+    (λ c κs. search needs)
+    (λ c. search needs)
+    (λ c κs. let s = c .before .before .before .before .before .before .before .before .before .before in loaded 7 (c .before .before .before .before .before .before .match .keys3) (c .before .before .before .before .before .w-n240-10ms .ensures) (c .before .before .before .t-hat-240 .ensures) (s .pre))
+    (λ c κs. search needs)
+    (λ c. search needs)
+    (λ c κs. search needs)
+    (λ c. search needs)
+    (λ c κs. let s = c .before .before .before .before .before .before .before .before .before .before in loaded 8 (c .before .before .before .before .before .before .match .keys4) (c .before .before .before .before .before .w-n320-10ms .ensures) (c .before .before .before .t-hat-320 .ensures) (s .pre))
+    (λ c κs. search needs)
+    (λ c. search needs)
+    (λ c κs. search needs)
+    (λ c. search needs)
+    (λ c κs. let s = c .before .before .before .before .before .before .before .before .before .before in loaded 9 (last-from 4 5 _ (s .pre .1) (s .pre .2) (c .before .before .before .before .before .before .match .rest)) (c .before .before .before .before .before .w-n480-10ms .ensures) (c .before .before .before .t-hat-480 .ensures) (s .pre))
+    (λ c. search needs)
+    (λ c. search needs)
+    (λ c. search needs)
+    (λ c. search needs)
+    (λ c. search needs)
+    (λ c. search needs)
+    (λ c. search needs)
+    (λ c. search needs)
+    (λ c. search needs)
+    (λ c. search needs)
+    (λ c. search needs)
+    (λ c. search needs)
+    (λ c. search needs)
+    (λ c. search needs)
+    (λ c. search needs))
