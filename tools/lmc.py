@@ -1,13 +1,22 @@
 """The log of calls (`LMC`), written: a function for each kind of call gives its bytes."""
+import pathlib
 import struct
 
+ROOT = pathlib.Path(__file__).resolve().parent.parent
+
+
+def columns():
+    """The columns of data/configs.txt, each a list by configuration."""
+    lines = (ROOT / 'data' / 'configs.txt').read_text(encoding='ascii').splitlines()
+    rows = [map(int, line.split()) for line in lines if line and not line.startswith('#')]
+    return map(list, zip(*rows, strict=True))
+
+
 HEADER = b'LMC' + struct.pack('<H', 1)
-NF = [60, 120, 180, 240, 360, 80, 160, 240, 320, 480]
-Z = [14, 28, 42, 56, 84, 30, 60, 90, 120, 180]
-NE = [60, 120, 180, 240, 300, 80, 160, 240, 320, 400]
-NB = [60, 64, 64, 64, 64, 64, 64, 64, 64, 64]
+_, DURATION, RATE, NF, Z, NE, NB, UPPER = columns()  # microseconds, Hz
 SIZES = sorted({n // 2 for n in NF})
 LENGTHS = sorted(set(NF))
+BAND_COUNTS = sorted(set(NB))
 ROOM = 300
 
 
