@@ -20,6 +20,11 @@ BAND_COUNTS = sorted(set(NB))
 ROOM = 300
 
 
+def beside(counts):
+    """The numbers next to one of the counts that are none of them."""
+    return sorted({count + step for count in counts for step in (-1, 1)} - set(counts))
+
+
 def bits(value):
     """The bits of a float, rounded to f32."""
     return struct.unpack('<I', struct.pack('<f', value))[0]
