@@ -1,15 +1,18 @@
-"""lc3-codec's own sources, compiled unchanged by plain rustc with a main program of ours.
+"""lc3-codec's own sources, compiled unchanged by plain rustc with a main program of ours; and a copy of them with the short frames (short_copy.py).
 
 The folder of the sources is RUST_SRC, by default ../shared/docs/src beside the repository: the crate's own folder or one with its seven files.
-Where it has no mdct_windows.rs, one is made from data/windows.txt."""
+Where it has no mdct_windows.rs, one is made from data/windows.txt. The copy is made anew at every build, in the room of the program."""
 import os
 import pathlib
 import shutil
 import subprocess
 
+import short_copy
+
 ROOT = pathlib.Path(__file__).resolve().parent.parent
 STAND_INS = ROOT / 'tools' / 'oracle'
 STAND_IN_CRATES = ('itertools', 'num_traits')
+SHORT = 'short_frames'  # the copy, as a crate
 MODULES = {
     'common': ['complex', 'config', 'dct_iv', 'kissfft'],
     'encoder': ['modified_dct'],
@@ -48,17 +51,37 @@ def sources():
     raise Missing(f'no sources of lc3-codec at {given}; RUST_SRC is to name their folder')
 
 
+def rows(short):
+    """The rows of data/ that lc3-codec has, or those that only its copy has."""
+    try:
+        return short_copy.read_rows(short)
+    except short_copy.tables.Bad as why:
+        raise Failed(why) from None
+
+
+def spans(numbers):
+    """Ascending numbers in words, as `0 to 9`."""
+    runs = []
+    for number in numbers:
+        if runs and number == runs[-1][-1] + 1:
+            runs[-1].append(number)
+        else:
+            runs.append([number])
+    return ', '.join(f'{run[0]} to {run[-1]}' if len(run) > 1 else str(run[0]) for run in runs)
+
+
+def whose():
+    """A line that says whose code and whose values the Rust's side runs on."""
+    own, short = (spans(row.config.number for row in rows(short)) for short in (False, True))
+    return (
+        f"configurations {own} are lc3-codec's own code; {short}, which it does not have, are its code with ETSI's values put in "
+        '(the windows and edges of liblc3)'
+    )
+
+
 def windows_module():
     """data/windows.txt as the crate's mdct_windows.rs has it, in bits."""
-    text = ['use crate::common::complex::Scaler;']
-    for line in (ROOT / 'data' / 'windows.txt').read_text(encoding='ascii').split('\n'):
-        words = line.split()
-        if not words or words[0].startswith('#'):
-            continue
-        name, bits = words[0], words[3:]
-        entries = ', '.join(f'Scaler::from_bits(0x{b})' for b in bits)
-        text.append(f'pub const {name}: [Scaler; {len(bits)}] = [{entries}];')
-    return '\n'.join(text) + '\n'
+    return ''.join(short_copy.window_constant(row.window) + '\n' for row in rows(short=False))
 
 
 def module_file(source, room, folder, name):
@@ -75,15 +98,48 @@ def own_windows():
     return (sources() / 'tables' / 'mdct_windows.rs').is_file()
 
 
-def root_module(source, room, main, taken):
-    """The root of the crate: lc3-codec's modules where they stand, a module of what was taken out of them, and our main program."""
-    text = ['#![allow(dead_code)]', f'mod taken {{ {taken} }}']
+def copied_file(path, room, module):
+    """Where a module of the copy stands, written to the room; where nothing is put in, the original."""
+    if module not in short_copy.PUT_IN:
+        return path
+    folder, name = module
+    copy = room / SHORT / folder / f'{name}.rs'
+    copy.parent.mkdir(parents=True, exist_ok=True)
+    try:
+        text = path.read_bytes().decode('utf-8')
+        copy.write_bytes(short_copy.copied(module, text, rows(short=True)).encode('utf-8'))
+    except OSError as why:
+        raise Failed(f'{path}: {why.strerror}') from None
+    except (UnicodeDecodeError, short_copy.NoPlace) as why:
+        raise Failed(f'{path}: {why}') from None
+    return copy
+
+
+def places(source, room, short):
+    """Where each module stands: of lc3-codec, or of its copy."""
+    own = {(folder, name): module_file(source, room, folder, name) for folder, names in MODULES.items() for name in names}
+    return {module: copied_file(path, room, module) for module, path in own.items()} if short else own
+
+
+def configs_module(short):
+    """The configurations by number: those that lc3-codec has, or those that only its copy has."""
+    arms = [
+        f'{row.config.number} => Some(Lc3Config::new(SamplingFrequency::Hz{row.config.fs}, FrameDuration::{short_copy.DURATIONS[row.config.duration]})),'
+        for row in rows(short)
+    ]
+    return (
+        'use crate::common::config::{FrameDuration, Lc3Config, SamplingFrequency}; '
+        f'pub fn config(number: u8) -> Option<Lc3Config> {{ match number {{ {" ".join(arms)} _ => None }} }}'
+    )
+
+
+def root_module(at, short, more=''):
+    """The root of a crate: lc3-codec's modules, or its copy's, where they stand, their configurations by number, and what else it is to hold."""
+    text = ['#![allow(dead_code)]', f'pub mod configs {{ {configs_module(short)} }}']
     for folder, names in MODULES.items():
-        inner = [f'#[path = "{module_file(source, room, folder, name)}"] pub mod {name};' for name in names]
-        text.append(f'mod {folder} {{ {" ".join(inner)} }}')
-    text.append(f'#[path = "{main}"] mod program;')
-    text.append('fn main() -> std::io::Result<()> { program::main() }')
-    return '\n'.join(text) + '\n'
+        inner = [f'#[path = "{at[folder, name]}"] pub mod {name};' for name in names]
+        text.append(f'pub mod {folder} {{ {" ".join(inner)} }}')
+    return '\n'.join([*text, more, ''])
 
 
 def rustc(words):
@@ -94,17 +150,39 @@ def rustc(words):
         raise Failed('rustc does not compile the sources:\n' + done.stderr)
 
 
-def build(main, name, taken='', target=(), link=()):
+def library(room, crate, root, words):
+    """Compiles a crate that others use; the words that let them."""
+    made = room / f'lib{crate}.rlib'
+    rustc([*words, '--crate-type', 'rlib', '--crate-name', crate, root, '-o', made])
+    return ['--extern', f'{crate}={made}']
+
+
+def written(path, text):
+    """A file of this text."""
+    path.write_text(text, encoding='utf-8')
+    return path
+
+
+def build(main, name, taken='', short=False, beside=False, target=(), link=()):
     """Compiles lc3-codec with a main program of ours, and what that takes out of the sources, to target/rust/NAME/NAME; returns its path.
 
+    With `short` the copy is compiled in its stead; with `beside` the program may also use it, as the crate short_frames.
     `target` goes to every run of rustc, `link` to the last."""
     source = sources()
     room = ROOT / 'target' / 'rust' / name
     room.mkdir(parents=True, exist_ok=True)
+    words = list(target)
     for crate in STAND_IN_CRATES:
-        rustc([*target, '--crate-type', 'rlib', '--crate-name', crate, STAND_INS / f'{crate}.rs', '-o', room / f'lib{crate}.rlib'])
-    root = room / f'{name}.rs'
-    root.write_text(root_module(source, room, main, taken), encoding='utf-8')
-    crates = [word for crate in STAND_IN_CRATES for word in ('--extern', f'{crate}={room}/lib{crate}.rlib')]
-    rustc([*target, *link, *crates, root, '-o', room / name])
+        words += library(room, crate, STAND_INS / f'{crate}.rs', target)
+    if beside:
+        root = written(room / f'{SHORT}.rs', root_module(places(source, room, True), True))
+        words += library(room, SHORT, root, words)
+    program = f'mod taken {{ {taken} }}\n#[path = "{main}"] mod program;\nfn main() -> std::io::Result<()> {{ program::main() }}'
+    root = written(room / f'{name}.rs', root_module(places(source, room, short), short, program))
+    rustc([*words, *link, root, '-o', room / name])
     return room / name
+
+
+def oracle():
+    """The Rust's side of the bench, compiled anew: lc3-codec, and beside it the copy with the short frames."""
+    return build(STAND_INS / 'main.rs', 'oracle', beside=True)

@@ -31,7 +31,7 @@ def replay():
 
 def oracle():
     """The Rust's side, compiled anew."""
-    return [str(rust_side.build(rust_side.STAND_INS / 'main.rs', 'oracle'))]
+    return [str(rust_side.oracle())]
 
 
 @contextlib.contextmanager

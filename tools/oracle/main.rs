@@ -1,14 +1,13 @@
 //! The Rust's side of the bench: reads a log of calls on standard input, runs lc3-codec on each, and prints what it answers.
 //! Refusals, the loudest band and channels that came from no clear are decided here, from the paper's text.
-//! `crate::common`, `encoder`, `decoder` and `tables` are lc3-codec's own files, unchanged.
+//! `crate::common`, `encoder`, `decoder` and `tables` are lc3-codec's own files, unchanged; the crate `short_frames` is their copy, which runs the
+//! configurations that lc3-codec does not have, and nothing else.
 
 mod log;
 
 use crate::common::complex::Complex;
-use crate::common::config::{FrameDuration, Lc3Config, SamplingFrequency};
 use crate::common::dct_iv::DiscreteCosTransformIv;
 use crate::common::kissfft::KissFastFourierTransform;
-use crate::{decoder, encoder};
 use log::{Call, Log, ROOM};
 use std::io::{self, Read, Write};
 
@@ -18,19 +17,37 @@ const LIMIT: f32 = (1u64 << 60) as f32;
 type Verdict = (u8, usize);
 const ACCEPTED: Verdict = (0, 0);
 
-fn config(number: u8) -> Option<Lc3Config> {
-    use FrameDuration::*;
-    use SamplingFrequency::*;
-    let rates = [Hz8000, Hz16000, Hz24000, Hz32000, Hz48000];
-    match number {
-        0..=4 => Some(Lc3Config::new(rates[number as usize], SevenPointFiveMs)),
-        5..=9 => Some(Lc3Config::new(rates[number as usize - 5], TenMs)),
-        _ => None,
-    }
+mod own {
+    use crate as side;
+    include!("transforms.rs");
 }
 
-fn all_configs() -> impl Iterator<Item = Lc3Config> {
-    (0..=9).filter_map(config)
+mod short {
+    use short_frames as side;
+    include!("transforms.rs");
+}
+
+/// What lc3-codec's code does with a configuration. A channel's memory is in the buffer that it is lent.
+trait Transforms {
+    fn analyse(&self, time: &mut [i16], input: &[i16], lines: &mut [f32], energies: &mut [f32]) -> bool;
+    fn buffer_length(&self) -> usize;
+    fn synthesise(&self, buffer: &mut [f32], lines: &[f32], samples: &mut [f32]);
+}
+
+struct Config {
+    nf: usize,
+    z: usize,
+    ne: usize,
+    nb: usize,
+    transforms: Box<dyn Transforms>,
+}
+
+fn config(number: u8) -> Option<Config> {
+    own::config(number).or_else(|| short::config(number))
+}
+
+fn all_configs() -> impl Iterator<Item = Config> {
+    (0..=u8::MAX).filter_map(config)
 }
 
 /// The first place that does not pass a test.
@@ -81,9 +98,7 @@ impl Analysis {
         if energies.len() != c.nb {
             return ((5, 0), false);
         }
-        let mut work = vec![Complex::default(); DiscreteCosTransformIv::calc_working_buffer_length(&c)];
-        let (mut mdct, _, _) = encoder::modified_dct::ModDiscreteCosTrans::new(c, &mut self.time, &mut work);
-        let flag = mdct.run(input, lines, energies);
+        let flag = c.transforms.analyse(&mut self.time, input, lines, energies);
         self.samples = [0; ROOM];
         self.samples[..c.nf - c.z].copy_from_slice(&self.time[c.nf..2 * c.nf - c.z]);
         (ACCEPTED, flag)
@@ -101,8 +116,7 @@ impl Synthesis {
     fn set(number: u8, memory: [f32; ROOM]) -> Self {
         let mut buffer = Vec::new();
         if let Some(c) = config(number) {
-            let (length, _) = decoder::modified_dct::ModDiscreteCosTrans::calc_working_buffer_length(&c);
-            buffer.resize(length, 0.0);
+            buffer.resize(c.transforms.buffer_length(), 0.0);
             buffer[..c.nf - c.z].copy_from_slice(&memory[..c.nf - c.z]);
         }
         Synthesis { config: number, memory, buffer }
@@ -121,9 +135,7 @@ impl Synthesis {
         if let Some(place) = first_failing(lines, passes_6) {
             return (6, place);
         }
-        let mut work = vec![Complex::default(); DiscreteCosTransformIv::calc_working_buffer_length(&c)];
-        let (mut mdct, _, _) = decoder::modified_dct::ModDiscreteCosTrans::new(c, &mut self.buffer, &mut work);
-        mdct.run(lines, samples);
+        c.transforms.synthesise(&mut self.buffer, lines, samples);
         self.memory = [0.0; ROOM];
         self.memory[..c.nf - c.z].copy_from_slice(&self.buffer[..c.nf - c.z]);
         ACCEPTED
