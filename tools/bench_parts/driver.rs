@@ -1,4 +1,5 @@
-//! The bench's driver: calls of lc3-codec's own code and of the port's static library, side by side.
+//! The bench's driver: calls of lc3-codec's code and of the port's static library, side by side. It is built twice, on lc3-codec's own files and
+//! on their copy with the short frames, and knows the configurations of those that it is built on.
 //!   check                     compares the bits of both on random input, and prints how many calls agree
 //!   count SIDE CALL CONFIG N  makes N calls and prints nothing: its instructions are what is counted
 //!   stack SIDE CALL CONFIG    prints how many bytes of stack a call touches, a channel handed in by value included
@@ -7,20 +8,21 @@
 mod port;
 
 use crate::common::complex::Complex;
-use crate::common::config::{FrameDuration, Lc3Config, SamplingFrequency};
+use crate::common::config::Lc3Config;
 use crate::common::dct_iv::DiscreteCosTransformIv;
-use crate::{decoder, encoder};
+use crate::{configs, decoder, encoder};
 use std::io;
 
 const ROUNDS: usize = 50;
 const CALLS: [&str; 3] = ["dct", "analysis", "synthesis"];
 
+fn numbers() -> impl Iterator<Item = u8> {
+    (0..=u8::MAX).filter(|&number| configs::config(number).is_some())
+}
+
+/// A configuration; for a number that is none, the sizes of the first, which the port does not come to look at.
 fn config(number: u8) -> Lc3Config {
-    use FrameDuration::*;
-    use SamplingFrequency::*;
-    let rates = [Hz8000, Hz16000, Hz24000, Hz32000, Hz48000];
-    let duration = if number < 5 { SevenPointFiveMs } else { TenMs };
-    Lc3Config::new(rates[number as usize % 5], duration)
+    configs::config(number).or_else(|| numbers().find_map(configs::config)).expect("a configuration")
 }
 
 /// Memory that lives as long as the program, as lc3-codec wants its buffers lent.
@@ -212,14 +214,14 @@ fn agree(call: &str, number: u8) -> bool {
 
 fn check() {
     for call in CALLS {
-        for number in 0..10 {
+        for number in numbers() {
             if !agree(call, number) {
                 println!("the bits differ: {call}, configuration {number}");
                 std::process::exit(1);
             }
         }
     }
-    println!("{}", ROUNDS * CALLS.len() * 10);
+    println!("{}", ROUNDS * CALLS.len() * numbers().count());
 }
 
 /// A DCT is in place: its buffer stays zero here, since other values would grow from call to call. No count depends on values.
