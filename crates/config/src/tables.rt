@@ -4,72 +4,72 @@ ghost use mathlib.Core.Path.{_≡_};
 ghost use Rattle.config.specs.Config.{rate, ne, duration, nb, nf, z, upper, edges};
 
 pub const FFT_SIZES: [usize; 20] = [
-    30,
-    60,
-    90,
-    120,
-    180,
-    40,
-    80,
-    120,
-    160,
-    240,
-    20,
-    40,
-    60,
-    80,
-    120,
-    10,
-    20,
-    30,
-    40,
-    60,
+    30, // FFT size of 0
+    60, // FFT size of 1
+    90, // FFT size of 2
+    120, // FFT size of 3
+    180, // FFT size of 4
+    40, // FFT size of 5
+    80, // FFT size of 6
+    120, // FFT size of 7
+    160, // FFT size of 8
+    240, // FFT size of 9
+    20, // FFT size of 10
+    40, // FFT size of 11
+    60, // FFT size of 12
+    80, // FFT size of 13
+    120, // FFT size of 14
+    10, // FFT size of 15
+    20, // FFT size of 16
+    30, // FFT size of 17
+    40, // FFT size of 18
+    60, // FFT size of 19
 ];
 
 pub const DCT_LENGTHS: [usize; 20] = [
-    60,
-    120,
-    180,
-    240,
-    360,
-    80,
-    160,
-    240,
-    320,
-    480,
-    40,
-    80,
-    120,
-    160,
-    240,
-    20,
-    40,
-    60,
-    80,
-    120,
+    60, // DCT length of 0
+    120, // DCT length of 1
+    180, // DCT length of 2
+    240, // DCT length of 3
+    360, // DCT length of 4
+    80, // DCT length of 5
+    160, // DCT length of 6
+    240, // DCT length of 7
+    320, // DCT length of 8
+    480, // DCT length of 9
+    40, // DCT length of 10
+    80, // DCT length of 11
+    120, // DCT length of 12
+    160, // DCT length of 13
+    240, // DCT length of 14
+    20, // DCT length of 15
+    40, // DCT length of 16
+    60, // DCT length of 17
+    80, // DCT length of 18
+    120, // DCT length of 19
 ];
 
 pub const BAND_COUNTS: [usize; 20] = [
-    60,
-    64,
-    64,
-    64,
-    64,
-    64,
-    64,
-    64,
-    64,
-    64,
-    39,
-    50,
-    52,
-    54,
-    55,
-    20,
-    35,
-    40,
-    43,
-    44,
+    60, // bands of 0
+    64, // bands of 1
+    64, // bands of 2
+    64, // bands of 3
+    64, // bands of 4
+    64, // bands of 5
+    64, // bands of 6
+    64, // bands of 7
+    64, // bands of 8
+    64, // bands of 9
+    39, // bands of 10
+    50, // bands of 11
+    52, // bands of 12
+    54, // bands of 13
+    55, // bands of 14
+    20, // bands of 15
+    35, // bands of 16
+    40, // bands of 17
+    43, // bands of 18
+    44, // bands of 19
 ];
 
 // The row of a configuration, and zeros for a number that is none.

@@ -74,7 +74,7 @@ fn refused(number: u8, index: usize) -> Heard
     }
 }
 
-// Entry. The loudest band of 60 or 64 energies, which is quiet beside a refusal.
+// Entry. The loudest band of as many energies as some configuration has bands, which is quiet beside a refusal.
 pub fn loudest_band(energies: &[f32]) -> Heard
     ensures { λ r. ⌜ r ≡ heard (now (energies .entry)) ⌝ }
 {

@@ -47,6 +47,18 @@ use Rattle.windows.proofs.w_n160_10ms
 use Rattle.windows.proofs.w_n240_10ms
 use Rattle.windows.proofs.w_n320_10ms
 use Rattle.windows.proofs.w_n480_10ms
+use Rattle.windows.proofs.w_n40_5ms
+use Rattle.windows.proofs.w_n80_5ms
+use Rattle.windows.proofs.w_n120_5ms
+use Rattle.windows.proofs.w_n160_5ms
+use Rattle.windows.proofs.w_n240_5ms
+use Rattle.windows.proofs.w_n20_2p5ms
+use Rattle.windows.proofs.w_n40_2p5ms
+use Rattle.windows.proofs.w_n60_2p5ms
+use Rattle.windows.proofs.w_n80_2p5ms
+use Rattle.windows.proofs.w_n120_2p5ms
+use Rattle.twiddles.proofs.fft_10
+use Rattle.twiddles.proofs.fft_20
 use Rattle.twiddles.proofs.fft_30
 use Rattle.twiddles.proofs.fft_40
 use Rattle.twiddles.proofs.fft_60
@@ -56,6 +68,8 @@ use Rattle.twiddles.proofs.fft_120
 use Rattle.twiddles.proofs.fft_160
 use Rattle.twiddles.proofs.fft_180
 use Rattle.twiddles.proofs.fft_240
+use Rattle.twiddles.proofs.dct_10
+use Rattle.twiddles.proofs.dct_20
 use Rattle.twiddles.proofs.dct_30
 use Rattle.twiddles.proofs.dct_40
 use Rattle.twiddles.proofs.dct_60
@@ -191,7 +205,19 @@ pub record Entries (w : World) : Type 1 where
   pub w-n240-10ms : Entry w w_n240_10ms.ended w_n240_10ms.clauses
   pub w-n320-10ms : Entry w w_n320_10ms.ended w_n320_10ms.clauses
   pub w-n480-10ms : Entry w w_n480_10ms.ended w_n480_10ms.clauses
+  pub w-n40-5ms : Entry w w_n40_5ms.ended w_n40_5ms.clauses
+  pub w-n80-5ms : Entry w w_n80_5ms.ended w_n80_5ms.clauses
+  pub w-n120-5ms : Entry w w_n120_5ms.ended w_n120_5ms.clauses
+  pub w-n160-5ms : Entry w w_n160_5ms.ended w_n160_5ms.clauses
+  pub w-n240-5ms : Entry w w_n240_5ms.ended w_n240_5ms.clauses
+  pub w-n20-2p5ms : Entry w w_n20_2p5ms.ended w_n20_2p5ms.clauses
+  pub w-n40-2p5ms : Entry w w_n40_2p5ms.ended w_n40_2p5ms.clauses
+  pub w-n60-2p5ms : Entry w w_n60_2p5ms.ended w_n60_2p5ms.clauses
+  pub w-n80-2p5ms : Entry w w_n80_2p5ms.ended w_n80_2p5ms.clauses
+  pub w-n120-2p5ms : Entry w w_n120_2p5ms.ended w_n120_2p5ms.clauses
   -- twiddles
+  pub fft-10 : Entry w fft_10.ended fft_10.clauses
+  pub fft-20 : Entry w fft_20.ended fft_20.clauses
   pub fft-30 : Entry w fft_30.ended fft_30.clauses
   pub fft-40 : Entry w fft_40.ended fft_40.clauses
   pub fft-60 : Entry w fft_60.ended fft_60.clauses
@@ -201,6 +227,8 @@ pub record Entries (w : World) : Type 1 where
   pub fft-160 : Entry w fft_160.ended fft_160.clauses
   pub fft-180 : Entry w fft_180.ended fft_180.clauses
   pub fft-240 : Entry w fft_240.ended fft_240.clauses
+  pub dct-10 : Entry w dct_10.ended dct_10.clauses
+  pub dct-20 : Entry w dct_20.ended dct_20.clauses
   pub dct-30 : Entry w dct_30.ended dct_30.clauses
   pub dct-40 : Entry w dct_40.ended dct_40.clauses
   pub dct-60 : Entry w dct_60.ended dct_60.clauses

@@ -16,6 +16,6 @@ edge c b = ofBits binary32 0x3f800000 ∷ replicate (nb c - upper c - 1) zero32 
 
 pub record Flags : Type 0 where
   -- at 30.0 there is no flag
-  pub at-the-edge : map (λ c. flagOf c (edge c 0x41f00000)) configs ≡ false ∷ false ∷ false ∷ false ∷ false ∷ false ∷ false ∷ false ∷ false ∷ false ∷ []
+  pub at-the-edge : map (λ c. flagOf c (edge c 0x41f00000)) configs ≡ false ∷ false ∷ false ∷ false ∷ false ∷ false ∷ false ∷ false ∷ false ∷ false ∷ false ∷ false ∷ false ∷ false ∷ false ∷ false ∷ false ∷ false ∷ false ∷ false ∷ []
   -- one step above it there is, but at 48 kHz
-  pub above-it : map (λ c. flagOf c (edge c 0x41f00001)) configs ≡ true ∷ true ∷ true ∷ true ∷ false ∷ true ∷ true ∷ true ∷ true ∷ false ∷ []
+  pub above-it : map (λ c. flagOf c (edge c 0x41f00001)) configs ≡ true ∷ true ∷ true ∷ true ∷ false ∷ true ∷ true ∷ true ∷ true ∷ false ∷ true ∷ true ∷ true ∷ true ∷ false ∷ true ∷ true ∷ true ∷ true ∷ false ∷ []

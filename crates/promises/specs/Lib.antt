@@ -5,3 +5,4 @@ pub mod Facts
 pub mod Entries
 pub mod Flags
 pub mod Papers
+pub mod Short

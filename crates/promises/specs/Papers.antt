@@ -45,15 +45,15 @@ abbrev pub beside : List ℕ → Paper
 beside values = record { number = accepted; values = values }
 
 pub record Papers : Type 0 where
-  -- the loudest band of energies that are neither 60 nor 64: 5, with index 0 and no values
+  -- the loudest band of energies as many as no configuration has bands: 5, with index 0 and no values
   pub bad-energies : (l : List Float) → among bandCounts (length l) ≡ false → paper (heard l) ≡ record { number = badEnergies; index = 0; values = none }
-  -- of 60 or 64 of which one does not pass: 7, with the first such index and no values
+  -- of as many as a configuration has bands, of which one does not pass: 7, with the first such index and no values
   pub bad-energy : (l : List Float) → among bandCounts (length l) ≡ true → first passes7 l < length l
       → paper (heard l) ≡ record { number = badEnergy; index = first passes7 l; values = none }
-  -- of 60 or 64 zeros: 0 and no values
+  -- of as many zeros: 0 and no values
   pub quiet : (l : List Float) → among bandCounts (length l) ≡ true → ((k : ℕ) → k < length l → silent (getD l k nan) ≡ true)
       → paper (heard l) ≡ record { number = accepted; index = 0; values = none }
-  -- of 60 or 64 that pass, of which one is not zero: 0, with the scan's band and its energy, which `p12-any` of P says is the first with the greatest
+  -- of as many that pass, of which one is not zero: 0, with the scan's band and its energy, which `p12-any` of P says is the first with the greatest
   pub loud : (l : List Float) → among bandCounts (length l) ≡ true → first passes7 l ≡ length l → first silent l < length l
       → paper (heard l) ≡ record { number = accepted; index = 0; values = some (best l (length l), getD l (best l (length l)) nan) }
   -- a file shorter than 6 bytes: 8
@@ -62,7 +62,7 @@ pub record Papers : Type 0 where
   pub bad-mark : (f : List ℕ) → 6 ≤ length f → (take 3 f ≡ lmf → ⊥) → ofFile f ≡ alone badMark
   -- `LMF`, and a version that is not 1: 10
   pub bad-version : (f : List ℕ) → 6 ≤ length f → take 3 f ≡ lmf → (short f 3 ≡ 1 → ⊥) → ofFile f ≡ alone badVersion
-  -- `LMF` of version 1, and a configuration above 9: 1
+  -- `LMF` of version 1, and a configuration above the largest: 1
   pub bad-config : (f : List ℕ) → 6 ≤ length f → take 3 f ≡ lmf → short f 3 ≡ 1 → largest < byte f 5 → ofFile f ≡ alone badConfig
   -- else 0, with version 1 and the configuration byte
   pub good : (f : List ℕ) → 6 ≤ length f → take 3 f ≡ lmf → short f 3 ≡ 1 → byte f 5 ≤ largest → ofFile f ≡ beside (1 ∷ byte f 5 ∷ [])
@@ -72,7 +72,7 @@ pub record Papers : Type 0 where
   pub cut : (c : ℕ) (f : List ℕ) → c ≤ largest → 0 < length f → length f < 2 * nf c → ofRest c f ≡ alone cutFrame
   -- a frame's bytes or more: 0, with the frame's bytes
   pub whole : (c : ℕ) (f : List ℕ) → c ≤ largest → 2 * nf c ≤ length f → ofRest c f ≡ beside (2 * nf c ∷ [])
-  -- a configuration above 9: 1, whatever the bytes
+  -- a configuration above the largest: 1, whatever the bytes
   pub astray : (c : ℕ) (f : List ℕ) → largest < c → ofRest c f ≡ alone badConfig
   -- a log shorter than 5 bytes: 8
   pub short-log : (b : List ℕ) → length b < 5 → ofLog b ≡ alone shortFile
