@@ -9,6 +9,8 @@ ghost use Rattle.config.specs.Config.{valid, nf, z};
 ghost use Rattle.windows.specs.Windows.{window};
 ghost use Rattle.analysis_lines.specs.Lines.{mdct, linesOf};
 
+mod durations; // durations.rt: a frame of each duration
+
 // The time buffer to the lines: fold with the window, DCT, gain.
 fn apply_mdct(c: u8, w: &[u32], t: &[i16], lines: &mut [f32])
     requires { ⌜ T (valid c) × (now w ≡ window c) × (length (now t) ≡ 2 * nf c) × (length (now lines) ≡ nf c) ⌝ }
@@ -29,31 +31,15 @@ fn lines_with(c: u8, w: &[u32], past: &[i16], input: &[i16], lines: &mut [f32])
     apply_mdct(c, w, &t[..n], lines);
 }
 
-// Inner. The lines of a frame, after its past. The window is made once, here.
+// Inner. The lines of a frame, after its past.
 pub fn lines_of(c: u8, past: &[i16], input: &[i16], lines: &mut [f32])
     requires { ⌜ T (valid c) × (length (now past) ≡ nf c - z c) × (length (now input) ≡ nf c) × (length (now lines) ≡ nf c) ⌝ }
     ensures { λ _. ⌜ now (lines .exit) ≡ linesOf c (now (past .entry)) (now (input .entry)) ⌝ }
 {
     match c {
-        0 => lines_with(c, &windows::w_n60_7p5ms(), past, input, lines),
-        1 => lines_with(c, &windows::w_n120_7p5ms(), past, input, lines),
-        2 => lines_with(c, &windows::w_n180_7p5ms(), past, input, lines),
-        3 => lines_with(c, &windows::w_n240_7p5ms(), past, input, lines),
-        4 => lines_with(c, &windows::w_n360_7p5ms(), past, input, lines),
-        5 => lines_with(c, &windows::w_n80_10ms(), past, input, lines),
-        6 => lines_with(c, &windows::w_n160_10ms(), past, input, lines),
-        7 => lines_with(c, &windows::w_n240_10ms(), past, input, lines),
-        8 => lines_with(c, &windows::w_n320_10ms(), past, input, lines),
-        9 => lines_with(c, &windows::w_n480_10ms(), past, input, lines),
-        10 => lines_with(c, &windows::w_n40_5ms(), past, input, lines),
-        11 => lines_with(c, &windows::w_n80_5ms(), past, input, lines),
-        12 => lines_with(c, &windows::w_n120_5ms(), past, input, lines),
-        13 => lines_with(c, &windows::w_n160_5ms(), past, input, lines),
-        14 => lines_with(c, &windows::w_n240_5ms(), past, input, lines),
-        15 => lines_with(c, &windows::w_n20_2p5ms(), past, input, lines),
-        16 => lines_with(c, &windows::w_n40_2p5ms(), past, input, lines),
-        17 => lines_with(c, &windows::w_n60_2p5ms(), past, input, lines),
-        18 => lines_with(c, &windows::w_n80_2p5ms(), past, input, lines),
-        _ => lines_with(c, &windows::w_n120_2p5ms(), past, input, lines),
+        0..=4 => durations::of_7p5ms(c, past, input, lines),
+        5..=9 => durations::of_10ms(c, past, input, lines),
+        10..=14 => durations::of_5ms(c, past, input, lines),
+        _ => durations::of_2p5ms(c, past, input, lines),
     }
 }

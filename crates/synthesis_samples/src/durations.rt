@@ -1,4 +1,4 @@
-// A frame of each duration: the configuration picks the window and the work area, as in `ModDiscreteCosTrans::new`. Written by tools/tables.
+// A frame of each duration: the configuration picks the tables, as in `ModDiscreteCosTrans::new`. Written by tools/tables.
 use crate::areas::t_hat_20;
 use crate::areas::t_hat_40;
 use crate::areas::t_hat_60;

@@ -1,4 +1,4 @@
--- `synthesis_samples::durations::of_10ms` meets its contract: each arm has the window and the work area of its configuration, which is one law. Written by tools/tables. Assumes nothing.
+-- `synthesis_samples::durations::of_10ms` meets its contract: each arm has the tables of its configuration, which is one law. Written by tools/tables. Assumes nothing.
 use borrow.Author.Needs.{needs}
 use Rattle.laws.proofs.Arms.{last-from}
 use Rattle.synthesis_samples.proofs.Made.{loaded}
@@ -13,27 +13,27 @@ of-10ms-spec =
     (λ c. search needs)
     (λ c κs. search needs)
     (λ c. search needs)
-    (λ c κs. let s = c .before .before .before .before .before .before .before .before .before .before in loaded 5 (c .before .before .before .before .before .before .match .keys1) (c .before .before .before .before .before .w-n80-10ms .ensures) (c .before .before .before .t-hat-80 .ensures) (s .pre))
+    (λ c κs. let p = c .before .before .before .before .before .before .before .before .before .before .pre in loaded 5 (c .before .before .before .before .before .before .match .keys1) (c .before .before .before .before .before .w-n80-10ms .ensures) (c .before .before .before .t-hat-80 .ensures) p)
     (λ c κs. search needs)
     (λ c. search needs)
     (λ c κs. search needs)
     (λ c. search needs)
-    (λ c κs. let s = c .before .before .before .before .before .before .before .before .before .before in loaded 6 (c .before .before .before .before .before .before .match .keys2) (c .before .before .before .before .before .w-n160-10ms .ensures) (c .before .before .before .t-hat-160 .ensures) (s .pre))
+    (λ c κs. let p = c .before .before .before .before .before .before .before .before .before .before .pre in loaded 6 (c .before .before .before .before .before .before .match .keys2) (c .before .before .before .before .before .w-n160-10ms .ensures) (c .before .before .before .t-hat-160 .ensures) p)
     (λ c κs. search needs)
     (λ c. search needs)
     (λ c κs. search needs)
     (λ c. search needs)
-    (λ c κs. let s = c .before .before .before .before .before .before .before .before .before .before in loaded 7 (c .before .before .before .before .before .before .match .keys3) (c .before .before .before .before .before .w-n240-10ms .ensures) (c .before .before .before .t-hat-240 .ensures) (s .pre))
+    (λ c κs. let p = c .before .before .before .before .before .before .before .before .before .before .pre in loaded 7 (c .before .before .before .before .before .before .match .keys3) (c .before .before .before .before .before .w-n240-10ms .ensures) (c .before .before .before .t-hat-240 .ensures) p)
     (λ c κs. search needs)
     (λ c. search needs)
     (λ c κs. search needs)
     (λ c. search needs)
-    (λ c κs. let s = c .before .before .before .before .before .before .before .before .before .before in loaded 8 (c .before .before .before .before .before .before .match .keys4) (c .before .before .before .before .before .w-n320-10ms .ensures) (c .before .before .before .t-hat-320 .ensures) (s .pre))
+    (λ c κs. let p = c .before .before .before .before .before .before .before .before .before .before .pre in loaded 8 (c .before .before .before .before .before .before .match .keys4) (c .before .before .before .before .before .w-n320-10ms .ensures) (c .before .before .before .t-hat-320 .ensures) p)
     (λ c κs. search needs)
     (λ c. search needs)
     (λ c κs. search needs)
     (λ c. search needs)
-    (λ c κs. let s = c .before .before .before .before .before .before .before .before .before .before in loaded 9 (last-from 4 5 _ (s .pre .1) (s .pre .2) (c .before .before .before .before .before .before .match .rest)) (c .before .before .before .before .before .w-n480-10ms .ensures) (c .before .before .before .t-hat-480 .ensures) (s .pre))
+    (λ c κs. let p = c .before .before .before .before .before .before .before .before .before .before .pre in loaded 9 (last-from 4 5 _ (p .1) (p .2) (c .before .before .before .before .before .before .match .rest)) (c .before .before .before .before .before .w-n480-10ms .ensures) (c .before .before .before .t-hat-480 .ensures) p)
     (λ c. search needs)
     (λ c. search needs)
     (λ c. search needs)

@@ -1,4 +1,4 @@
--- `synthesis_samples::durations::of_2p5ms` meets its contract: each arm has the window and the work area of its configuration, which is one law. Written by tools/tables. Assumes nothing.
+-- `synthesis_samples::durations::of_2p5ms` meets its contract: each arm has the tables of its configuration, which is one law. Written by tools/tables. Assumes nothing.
 use borrow.Author.Needs.{needs}
 use Rattle.laws.proofs.Arms.{last-from}
 use Rattle.synthesis_samples.proofs.Made.{loaded}
@@ -13,27 +13,27 @@ of-2p5ms-spec =
     (λ c. search needs)
     (λ c κs. search needs)
     (λ c. search needs)
-    (λ c κs. let s = c .before .before .before .before .before .before .before .before .before .before in loaded 15 (c .before .before .before .before .before .before .match .keys1) (c .before .before .before .before .before .w-n20-2p5ms .ensures) (c .before .before .before .t-hat-20 .ensures) (s .pre))
+    (λ c κs. let p = c .before .before .before .before .before .before .before .before .before .before .pre in loaded 15 (c .before .before .before .before .before .before .match .keys1) (c .before .before .before .before .before .w-n20-2p5ms .ensures) (c .before .before .before .t-hat-20 .ensures) p)
     (λ c κs. search needs)
     (λ c. search needs)
     (λ c κs. search needs)
     (λ c. search needs)
-    (λ c κs. let s = c .before .before .before .before .before .before .before .before .before .before in loaded 16 (c .before .before .before .before .before .before .match .keys2) (c .before .before .before .before .before .w-n40-2p5ms .ensures) (c .before .before .before .t-hat-40 .ensures) (s .pre))
+    (λ c κs. let p = c .before .before .before .before .before .before .before .before .before .before .pre in loaded 16 (c .before .before .before .before .before .before .match .keys2) (c .before .before .before .before .before .w-n40-2p5ms .ensures) (c .before .before .before .t-hat-40 .ensures) p)
     (λ c κs. search needs)
     (λ c. search needs)
     (λ c κs. search needs)
     (λ c. search needs)
-    (λ c κs. let s = c .before .before .before .before .before .before .before .before .before .before in loaded 17 (c .before .before .before .before .before .before .match .keys3) (c .before .before .before .before .before .w-n60-2p5ms .ensures) (c .before .before .before .t-hat-60 .ensures) (s .pre))
+    (λ c κs. let p = c .before .before .before .before .before .before .before .before .before .before .pre in loaded 17 (c .before .before .before .before .before .before .match .keys3) (c .before .before .before .before .before .w-n60-2p5ms .ensures) (c .before .before .before .t-hat-60 .ensures) p)
     (λ c κs. search needs)
     (λ c. search needs)
     (λ c κs. search needs)
     (λ c. search needs)
-    (λ c κs. let s = c .before .before .before .before .before .before .before .before .before .before in loaded 18 (c .before .before .before .before .before .before .match .keys4) (c .before .before .before .before .before .w-n80-2p5ms .ensures) (c .before .before .before .t-hat-80 .ensures) (s .pre))
+    (λ c κs. let p = c .before .before .before .before .before .before .before .before .before .before .pre in loaded 18 (c .before .before .before .before .before .before .match .keys4) (c .before .before .before .before .before .w-n80-2p5ms .ensures) (c .before .before .before .t-hat-80 .ensures) p)
     (λ c κs. search needs)
     (λ c. search needs)
     (λ c κs. search needs)
     (λ c. search needs)
-    (λ c κs. let s = c .before .before .before .before .before .before .before .before .before .before in loaded 19 (last-from 4 15 _ (s .pre .1) (s .pre .2) (c .before .before .before .before .before .before .match .rest)) (c .before .before .before .before .before .w-n120-2p5ms .ensures) (c .before .before .before .t-hat-120 .ensures) (s .pre))
+    (λ c κs. let p = c .before .before .before .before .before .before .before .before .before .before .pre in loaded 19 (last-from 4 15 _ (p .1) (p .2) (c .before .before .before .before .before .before .match .rest)) (c .before .before .before .before .before .w-n120-2p5ms .ensures) (c .before .before .before .t-hat-120 .ensures) p)
     (λ c. search needs)
     (λ c. search needs)
     (λ c. search needs)
