@@ -14,7 +14,6 @@ def columns():
 
 HEADER = b'LMC' + struct.pack('<H', 1)
 _, DURATION, RATE, NF, Z, NE, NB, UPPER = columns()  # durations in microseconds, rates in Hz
-SHORT = [config for config, duration in enumerate(DURATION) if duration < 7500]  # which lc3-codec has not
 SIZES = sorted({n // 2 for n in NF})
 LENGTHS = sorted(set(NF))
 BAND_COUNTS = sorted(set(NB))

@@ -74,8 +74,8 @@ def whose():
     """A line that says whose code and whose values the Rust's side runs on."""
     own, short = (spans(row.config.number for row in rows(short)) for short in (False, True))
     return (
-        f"configurations {own} are lc3-codec's own code; {short}, which it does not have, are its code with ETSI's values put in "
-        '(the windows and edges of liblc3)'
+        f"configurations {own} are lc3-codec's own code; {short}, which it does not have, are its code with liblc3 1.1.3's values "
+        'for ETSI TS 103 634 put in'
     )
 
 

@@ -43,7 +43,7 @@ abbrev pub silent : ℕ → Channel
 silent c = channelOf c (replicate 300 (pos 0))
 
 -- ---- `clear`
--- a fresh channel; "above 9 it gives 1 and a channel of configuration 255 with all else zero"
+-- a fresh channel; "above 9 it gives 1 and a channel of configuration 255 with all else zero"; above 19 since document 02 §1
 abbrev pub clearing : Bool → ℕ → Cleared
 clearing true c = record { number = refusals.accepted; channel = silent c }
 clearing false c = record { number = refusals.badConfig; channel = silent 255 }

@@ -27,7 +27,7 @@ ghost use lib.ListN.{length};
 ghost use Rattle.config.specs.Config.{valid, nf, z};
 ghost use Rattle.analysis_lines.specs.Lines.{linesOf};
 
-// Inner. Configurations 0 to 4.
+// Inner. The lines of a frame of 7.5 ms: configurations 0 to 4.
 pub fn of_7p5ms(c: u8, past: &[i16], input: &[i16], lines: &mut [f32])
     requires { ⌜ T (valid c) × (0 ≤ c) × (c ≤ 4) × (length (now past) ≡ nf c - z c) × (length (now input) ≡ nf c) × (length (now lines) ≡ nf c) ⌝ }
     ensures { λ _. ⌜ now (lines .exit) ≡ linesOf c (now (past .entry)) (now (input .entry)) ⌝ }
@@ -41,7 +41,7 @@ pub fn of_7p5ms(c: u8, past: &[i16], input: &[i16], lines: &mut [f32])
     }
 }
 
-// Inner. Configurations 5 to 9.
+// Inner. The lines of a frame of 10 ms: configurations 5 to 9.
 pub fn of_10ms(c: u8, past: &[i16], input: &[i16], lines: &mut [f32])
     requires { ⌜ T (valid c) × (5 ≤ c) × (c ≤ 9) × (length (now past) ≡ nf c - z c) × (length (now input) ≡ nf c) × (length (now lines) ≡ nf c) ⌝ }
     ensures { λ _. ⌜ now (lines .exit) ≡ linesOf c (now (past .entry)) (now (input .entry)) ⌝ }
@@ -55,7 +55,7 @@ pub fn of_10ms(c: u8, past: &[i16], input: &[i16], lines: &mut [f32])
     }
 }
 
-// Inner. Configurations 10 to 14.
+// Inner. The lines of a frame of 5 ms: configurations 10 to 14.
 pub fn of_5ms(c: u8, past: &[i16], input: &[i16], lines: &mut [f32])
     requires { ⌜ T (valid c) × (10 ≤ c) × (c ≤ 14) × (length (now past) ≡ nf c - z c) × (length (now input) ≡ nf c) × (length (now lines) ≡ nf c) ⌝ }
     ensures { λ _. ⌜ now (lines .exit) ≡ linesOf c (now (past .entry)) (now (input .entry)) ⌝ }
@@ -69,7 +69,7 @@ pub fn of_5ms(c: u8, past: &[i16], input: &[i16], lines: &mut [f32])
     }
 }
 
-// Inner. Configurations 15 to 19.
+// Inner. The lines of a frame of 2.5 ms: configurations 15 to 19.
 pub fn of_2p5ms(c: u8, past: &[i16], input: &[i16], lines: &mut [f32])
     requires { ⌜ T (valid c) × (15 ≤ c) × (c ≤ 19) × (length (now past) ≡ nf c - z c) × (length (now input) ≡ nf c) × (length (now lines) ≡ nf c) ⌝ }
     ensures { λ _. ⌜ now (lines .exit) ≡ linesOf c (now (past .entry)) (now (input .entry)) ⌝ }

@@ -9,7 +9,6 @@ use native.Mathlib.Omega.{arith}
 use lib.Dec.{T, eqb, leb, ltb, eqb→eq, leb→le, ltb→lt, le→leb}
 use lib.ListN.{getD, length}
 use lib.Ieee.Fits.{and-l, and-r}
-use Rattle.laws.proofs.Arms.{others-le, Others}
 use Rattle.laws.proofs.Table.{at, every}
 use Rattle.config.specs.Tables.{rows, edgeRows}
 use Rattle.config.specs.Config.{largest, valid, configs, row, nf, z, ne, nb, rate, duration, upper, half, edges, among, fftSizes, dctLengths, bandCounts}
@@ -107,7 +106,3 @@ sound c v =
       edges-to = eqb→eq (getD (edges c) (nb c) 0) (ne c) (and-l (eqb (getD (edges c) (nb c) 0) (ne c)) _ t16);
       rising = rises (nb c) (edges c) (ne c) (and-r (eqb (getD (edges c) (nb c) 0) (ne c)) _ t16);
     }
-
--- the last arm of a match on the configurations has the last of them
-pub last-config : (c : ℕ) → T (valid c) → Others largest c → c ≡ largest
-last-config c v r = let h = others-le largest c r in let l = valid-lt c v in omega arith

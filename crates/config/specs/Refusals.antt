@@ -12,7 +12,7 @@ accepted = 0
 abbrev pub badConfig : ℕ
 badConfig = 1
 
--- "FFT size or DCT length not of the table above"
+-- "FFT size or DCT length not of the table above"; "2 accepts the new sizes" (document 02 §1)
 abbrev pub badSize : ℕ
 badSize = 2
 

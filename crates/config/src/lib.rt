@@ -1,6 +1,6 @@
 // The configurations: a row of numbers and the edges of the bands for each.
 // Ported from src/common/config.rs and src/tables/band_index_tables.rs of lc3-codec 0.2.0, and changed: a configuration is a number, 44.1 kHz
-// stays behind, frames of 5 and 2.5 ms come from LC3plus, the row has the number of upper bands too, and every function is total.
+// stays behind, frames of 5 and 2.5 ms are LC3plus's as liblc3 has them, the row has the number of upper bands too, and every function is total.
 ghost use mathlib.Core.Path.{_≡_};
 ghost use Rattle.config.specs.Config.{valid, nf, z, ne, nb, rate, duration, upper, half, among, fftSizes, dctLengths, bandCounts};
 

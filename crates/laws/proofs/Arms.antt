@@ -1,5 +1,5 @@
--- What the last arm of a match on a number knows: the number is none of the arms before it, which are 0, 1, .. up to n. So it is at least n.
--- Assumes nothing.
+-- What the last arm of a match on a number knows: the number is none of the arms before it. Where these are 0, 1, .. up to n, it is at least n; where
+-- they begin at a, so many more. Assumes nothing.
 use mathlib.Core.Path.{_≡_}
 use mathlib.Core.List.{List, [], _∷_}
 use Prim.Native.Nat.{ℕ, zero, suc, _+_, _≤_}

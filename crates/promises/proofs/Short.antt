@@ -8,7 +8,7 @@ use lib.Ieee.{add}
 use borrow.Author.Tests.{lt-leb}
 use Rattle.laws.specs.Lists.{tab}
 use Rattle.config.specs.Tables.{rows}
-use Rattle.config.specs.Config.{largest, valid, row, half, among, fftSizes, dctLengths, bandCounts}
+use Rattle.config.specs.Config.{largest, valid, row, half, fftSizes, dctLengths, bandCounts}
 use Rattle.config.proofs.Among.{same-among}
 use Rattle.kf_work.specs.Work.{plan}
 use Rattle.analysis_steps.specs.Buffer.{pastOf, bufferStep}

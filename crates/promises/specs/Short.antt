@@ -38,7 +38,7 @@ pub record Short : Type 0 where
   -- "Frame lengths are 40, 80, 120, 160, 240 and 20, 40, 60, 80, 120"
   pub five-lengths : map nf five ≡ 40 ∷ 80 ∷ 120 ∷ 160 ∷ 240 ∷ []
   pub two-and-a-half-lengths : map nf twoAndAHalf ≡ 20 ∷ 40 ∷ 60 ∷ 80 ∷ 120 ∷ []
-  -- "z .. from the ETSI text": a quarter of the frame at 5 ms, nothing at 2.5 ms
+  -- "z .. from the ETSI text", as liblc3 has it: a quarter of the frame at 5 ms, nothing at 2.5 ms
   pub five-zeros : map z five ≡ 10 ∷ 20 ∷ 30 ∷ 40 ∷ 60 ∷ []
   pub two-and-a-half-zeros : map z twoAndAHalf ≡ 0 ∷ 0 ∷ 0 ∷ 0 ∷ 0 ∷ []
   -- "bands": their number, and the coded lines, where the last ends
@@ -46,7 +46,7 @@ pub record Short : Type 0 where
   pub two-and-a-half-bands : map nb twoAndAHalf ≡ 20 ∷ 35 ∷ 40 ∷ 43 ∷ 44 ∷ []
   pub five-coded : map ne five ≡ 40 ∷ 80 ∷ 120 ∷ 160 ∷ 200 ∷ []
   pub two-and-a-half-coded : map ne twoAndAHalf ≡ 20 ∷ 40 ∷ 60 ∷ 80 ∷ 100 ∷ []
-  -- "the flag's split": the last 3 bands at 5 ms, the last 2 at 2.5 ms
+  -- "the flag's split", as liblc3 has it: the last 3 bands at 5 ms, the last 2 at 2.5 ms
   pub five-upper : map upper five ≡ 3 ∷ 3 ∷ 3 ∷ 3 ∷ 3 ∷ []
   pub two-and-a-half-upper : map upper twoAndAHalf ≡ 2 ∷ 2 ∷ 2 ∷ 2 ∷ 2 ∷ []
   -- "FFT sizes 10 and 20 are new, with plans 2,5,5,1 and 4,5,5,1"

@@ -38,7 +38,7 @@ ghost use lib.ListN.{length};
 ghost use Rattle.config.specs.Config.{valid, nf, z, ne};
 ghost use Rattle.synthesis_samples.specs.Samples.{samplesOf, memoryOf};
 
-// Inner. Configurations 0 to 4.
+// Inner. The samples and the memory of a frame of 7.5 ms: configurations 0 to 4.
 pub fn of_7p5ms(c: u8, lines: &[f32], memory: &mut [f32], samples: &mut [f32])
     requires { ⌜ T (valid c) × (0 ≤ c) × (c ≤ 4) × (length (now lines) ≡ ne c) × (length (now memory) ≡ nf c - z c) × (length (now samples) ≡ nf c) ⌝ }
     ensures memory { λ _. ⌜ now (memory .exit) ≡ memoryOf c (now (lines .entry)) ⌝ }
@@ -53,7 +53,7 @@ pub fn of_7p5ms(c: u8, lines: &[f32], memory: &mut [f32], samples: &mut [f32])
     }
 }
 
-// Inner. Configurations 5 to 9.
+// Inner. The samples and the memory of a frame of 10 ms: configurations 5 to 9.
 pub fn of_10ms(c: u8, lines: &[f32], memory: &mut [f32], samples: &mut [f32])
     requires { ⌜ T (valid c) × (5 ≤ c) × (c ≤ 9) × (length (now lines) ≡ ne c) × (length (now memory) ≡ nf c - z c) × (length (now samples) ≡ nf c) ⌝ }
     ensures memory { λ _. ⌜ now (memory .exit) ≡ memoryOf c (now (lines .entry)) ⌝ }
@@ -68,7 +68,7 @@ pub fn of_10ms(c: u8, lines: &[f32], memory: &mut [f32], samples: &mut [f32])
     }
 }
 
-// Inner. Configurations 10 to 14.
+// Inner. The samples and the memory of a frame of 5 ms: configurations 10 to 14.
 pub fn of_5ms(c: u8, lines: &[f32], memory: &mut [f32], samples: &mut [f32])
     requires { ⌜ T (valid c) × (10 ≤ c) × (c ≤ 14) × (length (now lines) ≡ ne c) × (length (now memory) ≡ nf c - z c) × (length (now samples) ≡ nf c) ⌝ }
     ensures memory { λ _. ⌜ now (memory .exit) ≡ memoryOf c (now (lines .entry)) ⌝ }
@@ -83,7 +83,7 @@ pub fn of_5ms(c: u8, lines: &[f32], memory: &mut [f32], samples: &mut [f32])
     }
 }
 
-// Inner. Configurations 15 to 19.
+// Inner. The samples and the memory of a frame of 2.5 ms: configurations 15 to 19.
 pub fn of_2p5ms(c: u8, lines: &[f32], memory: &mut [f32], samples: &mut [f32])
     requires { ⌜ T (valid c) × (15 ≤ c) × (c ≤ 19) × (length (now lines) ≡ ne c) × (length (now memory) ≡ nf c - z c) × (length (now samples) ≡ nf c) ⌝ }
     ensures memory { λ _. ⌜ now (memory .exit) ≡ memoryOf c (now (lines .entry)) ⌝ }
