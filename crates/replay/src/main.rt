@@ -337,6 +337,33 @@ fn taken(b: &[u8]) -> usize
     n
 }
 
+// A call on the analysis channel.
+fn on_analysis(a: analysis::Channel, kind: u8, b: &[u8]) -> Analysed {
+    match kind {
+        1 => clear_analysis(a, b),
+        2 => analyse(a, b),
+        _ => set_analysis(b),
+    }
+}
+
+// A call on the synthesis channel.
+fn on_synthesis(s: synthesis::Channel, kind: u8, b: &[u8]) -> Played {
+    match kind {
+        3 => clear_synthesis(s, b),
+        4 => play(s, b),
+        _ => set_synthesis(b),
+    }
+}
+
+// A call on no channel.
+fn answered(kind: u8, b: &[u8]) -> Answer {
+    match kind {
+        5 => fft(b),
+        6 => dct(b),
+        _ => loudest(b),
+    }
+}
+
 impl Bench {
     // Both channels as a refused clear gives them.
     fn new() -> Bench {
@@ -351,52 +378,36 @@ impl Bench {
         }
     }
 
-    fn with_analysis(self, a: Analysed) -> Bench {
-        let analysis = a.channel;
-        let synthesis = self.synthesis;
-        let answer = a.answer;
-        Bench {
-            analysis,
-            synthesis,
-            answer,
-        }
-    }
-
-    fn with_synthesis(self, p: Played) -> Bench {
-        let analysis = self.analysis;
-        let synthesis = p.channel;
-        let answer = p.answer;
-        Bench {
-            analysis,
-            synthesis,
-            answer,
-        }
-    }
-
-    fn with_answer(self, answer: Answer) -> Bench {
-        let analysis = self.analysis;
-        let synthesis = self.synthesis;
-        Bench {
-            analysis,
-            synthesis,
-            answer,
-        }
-    }
-
     // After a call. Its kind is one that call_taken takes.
     fn made(self, kind: u8, b: &[u8]) -> Bench {
-        let a = self.analysis;
-        let s = self.synthesis;
+        let analysis = self.analysis;
+        let synthesis = self.synthesis;
         match kind {
-            1 => self.with_analysis(clear_analysis(a, b)),
-            2 => self.with_analysis(analyse(a, b)),
-            3 => self.with_synthesis(clear_synthesis(s, b)),
-            4 => self.with_synthesis(play(s, b)),
-            5 => self.with_answer(fft(b)),
-            6 => self.with_answer(dct(b)),
-            7 => self.with_answer(loudest(b)),
-            9 => self.with_analysis(set_analysis(b)),
-            10 => self.with_synthesis(set_synthesis(b)),
+            1 | 2 | 9 => {
+                let made = on_analysis(analysis, kind, b);
+                let analysis = made.channel;
+                let answer = made.answer;
+                Bench {
+                    analysis,
+                    synthesis,
+                    answer,
+                }
+            }
+            3 | 4 | 10 => {
+                let made = on_synthesis(synthesis, kind, b);
+                let synthesis = made.channel;
+                let answer = made.answer;
+                Bench {
+                    analysis,
+                    synthesis,
+                    answer,
+                }
+            }
+            5..=7 => Bench {
+                analysis,
+                synthesis,
+                answer: answered(kind, b),
+            },
             _ => self,
         }
     }
