@@ -22,10 +22,6 @@ use Rattle.analysis_lines.specs.Lines.{timeBuffer, mdct, linesOf}
 pub dct-takes : (c n : ℕ) → T (valid c) → n ≡ nf c → T (among dctLengths n)
 dct-takes c n v e = subst (λ (m : ℕ). T (among dctLengths m)) (sym e) (sound c v .dct-length)
 
--- the window of an arm of the match is the configuration's
-pub of-arm : {c k : ℕ} {w : List ℕ} → c ≡ k → w ≡ window k → w ≡ window c
-of-arm e h = h ∙ ap window (sym e)
-
 -- fold, DCT, gain
 pub made-mdct : (c n k : ℕ) (w : List ℕ) (t : List ℤ) (g : Float) (a b d : List Float)
     → n ≡ nf c → w ≡ window c → a ≡ folded n w t → b ≡ dctIv a → g ≡ gain k → k ≡ nf c → d ≡ gained g b → d ≡ mdct c t

@@ -12,7 +12,7 @@ use Rattle.config.specs.Config.{valid, configs, row, nf, z, ne, half, among, dc
 use Rattle.config.specs.Tables.{rows}
 use Rattle.config.proofs.Sound.{sound, each}
 use Rattle.windows.specs.Windows.{window, Numbers}
-use Rattle.windows.proofs.Entries.{window-length, window-numbers}
+use Rattle.windows.proofs.Entries.{window-length, window-numbers, of-arm}
 use Rattle.twiddles.specs.Twiddles.{gain}
 use Rattle.dct_iv.specs.DctIv.{dctIv}
 use Rattle.dct_iv.proofs.Placed.{length-dctIv}
@@ -80,7 +80,7 @@ pub loaded : {c : ℕ} (k : ℕ) {w : List ℕ} {t : List Float} {l m s : ℕ} {
     → T (valid c) × (w ≡ window c) × (length t ≡ 2 * nf c) × (l ≡ ne c) × (m ≡ nf c - z c) × (s ≡ nf c)
 loaded {c = c} k e p q r = (
   r .0,
-  p ∙ ap window (sym e),
+  of-arm e p,
   ap length q ∙ length-replicate (getD sizes k 0) zero32 ∙ ap (λ (j : ℕ). getD sizes j 0) (sym e) ∙ eqb→eq (getD sizes c 0) (2 * nf c) (each (λ c. eqb (getD sizes c 0) (2 * nf c)) sizes-test c (r .0)),
   r .3,
   r .4,
