@@ -1,0 +1,49 @@
+-- `call_made::Bench::on_none` meets its contract: each arm makes the call of its kind. Assumes nothing.
+use mathlib.Core.Path.{refl, sym, ap, _∙_}
+use Prim.Native.Nat.{ℕ}
+use borrow.Author.Tests.{ne-eqb}
+use borrow.Author.Needs.{needs}
+use Rattle.call_made.specs.Made.{withAnswer, onNone}
+use Rattle.call_made.proofs.Bench.on_none.Statement.{statement}
+use Rattle.call_made.proofs.Bench.on_none.Tie as tie
+
+returns : tie.Need-returns
+unfolding onNone
+returns c =
+    let a = c .before .before .before .before .args in
+    c .answered .ensures ∙ ap (withAnswer (a .self)) (c .before .fft .ensures) ∙ ap (λ (k : ℕ). onNone (a .self) k (a .b .now)) (sym (c .before .before .match .keys1))
+
+returns-2 : tie.Need-returns-2
+unfolding onNone
+returns-2 c =
+    let a = c .before .before .before .before .args in
+    c .answered2 .ensures ∙ ap (withAnswer (a .self)) (c .before .dct .ensures) ∙ ap (λ (k : ℕ). onNone (a .self) k (a .b .now)) (sym (c .before .before .match .keys2))
+
+returns-3 : tie.Need-returns-3
+unfolding onNone
+returns-3 c =
+    let a = c .before .before .before .before .args in
+    c .answered3 .ensures ∙ ap (withAnswer (a .self)) (c .before .loudest .ensures) ∙ ap (λ (k : ℕ). onNone (a .self) k (a .b .now)) (sym (c .before .before .match .keys3))
+
+returns-4 : tie.Need-returns-4
+unfolding onNone
+returns-4 c =
+    let a = c .before .before .args in
+    let r = c .match .rest in
+    let k = a .kind in
+    simp (ne-eqb k 5 (r .0 .0 .1), ne-eqb k 6 (r .0 .1), ne-eqb k 7 (r .1)) refl
+
+pub on-none-spec : {M : Type 1} → statement M
+on-none-spec =
+    tie.close
+    (tie.spec
+    (λ c κs. search needs)
+    (λ c κs. search needs)
+    (λ c κs. search needs)
+    (λ c κs. search needs)
+    (λ c κs. search needs)
+    (λ c κs. search needs)
+    returns
+    returns-2
+    returns-3
+    returns-4)

@@ -1,0 +1,26 @@
+-- A room of which as many places are lent as a count asks for, as the code makes it. Assumes nothing.
+use mathlib.Core.Path.{_≡_, sym, ap, _∙_}
+use mathlib.Core.List.{List, _++_}
+use Prim.Native.Nat.{ℕ, _≤_, min}
+use lib.ListN.{length, take, drop}
+use Rattle.laws.specs.Lists.{tab}
+use Rattle.call_log.specs.Log.{short, Places}
+
+-- n places of the room, which is a fresh one of `most` places, for the count at the front of l
+pub record Lends {A : Type 0} (most : ℕ) (fresh : List A) (l : List ℕ) (n : ℕ) (room : List A) : Type 0 where
+  pub new : room ≡ fresh
+  pub asked : n ≡ min (short l) most
+  pub long : length (take n room) ≡ min (short l) most
+
+-- from what making the room, counting and reading l say
+pub lends : {A : Type 0} {most : ℕ} {fresh room : List A} {l read : List ℕ} {n : ℕ} →
+    (room ≡ fresh) × (most ≡ length room) → read ≡ l → (n ≡ min (short read) (length room)) × Places n room → Lends most fresh l n room
+lends {most} made e counted =
+    let n-is = counted .0 ∙ (λ j. min (short (e j)) (sym (made .1) j)) in
+    record { new = made .0; asked = n-is; long = sym (counted .1 .1) ∙ n-is }
+
+-- the room with the lent places read into, and the rest of it as it was
+pub filled : {A : Type 0} {most n : ℕ} {fresh room last : List A} {l read : List ℕ} (f : List ℕ → ℕ → A) →
+    Lends most fresh l n room → read ≡ l → last ≡ tab (length (take n room)) (f read) →
+    last ++ drop n room ≡ tab (min (short l) most) (f l) ++ drop (min (short l) most) fresh
+filled {n = n} {room = room} f u e held = ap (λ (x : List _). x ++ drop n room) held ∙ (λ j. tab (u .long j) (f (e j)) ++ drop (u .asked j) (u .new j))

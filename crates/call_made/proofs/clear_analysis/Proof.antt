@@ -1,0 +1,25 @@
+-- `call_made::clear_analysis` meets its contract: the old channel stays where the clear is refused. Assumes nothing.
+use mathlib.Core.Path.{ap, _∙_}
+use Rattle.analysis.specs.Analysis.{cleared}
+use Rattle.analysis.specs.declared.Cleared.{Cleared}
+use borrow.Author.Needs.{needs}
+use Rattle.call_made.specs.Made.{analysed, clearAnalysis}
+use Rattle.call_made.proofs.Answers.{new-is, old-is}
+use Rattle.call_made.proofs.clear_analysis.Statement.{statement}
+use Rattle.call_made.proofs.clear_analysis.Tie as tie
+
+returns : tie.Need-returns
+unfolding clearAnalysis
+returns c =
+    let s = c .before .before .before in
+    new-is analysed (λ (d : Cleared). d .number) (λ (d : Cleared). d .channel) (s .before .before .before .before .args .old) (s .before .clear .ensures ∙ ap cleared (s .before .before .byte-at .ensures)) (s .plain .ensures) (c .before .if1 .taken)
+
+returns-2 : tie.Need-returns-2
+unfolding clearAnalysis
+returns-2 c =
+    let s = c .before .before in
+    old-is analysed (λ (d : Cleared). d .number) (λ (d : Cleared). d .channel) (s .before .before .before .before .args .old) (s .before .clear .ensures ∙ ap cleared (s .before .before .byte-at .ensures)) (s .plain .ensures) (c .if1 .left)
+
+pub clear-analysis-spec : {M : Type 1} → statement M
+clear-analysis-spec =
+    tie.close (tie.spec (λ c κs. search needs) (λ c κs. search needs) (λ c κs. search needs) returns returns-2)

@@ -1,0 +1,12 @@
+-- `call_made::fresh` meets its contract: each part is what its function gives. Assumes nothing.
+use borrow.Author.Needs.{needs}
+use Rattle.call_made.specs.Made.{fresh, benchOf}
+use Rattle.call_made.proofs.fresh.Statement.{statement}
+use Rattle.call_made.proofs.fresh.Tie as tie
+
+returns : tie.Need-returns
+unfolding fresh
+returns c = λ j. benchOf (c .before .before .before .before .clear .ensures j .channel) (c .before .before .before .clear2 .ensures j .channel) (c .plain .ensures j)
+
+pub fresh-spec : {M : Type 1} → statement M
+fresh-spec = tie.close (tie.spec (λ c κs. search needs) (λ c κs. search needs) (λ c κs. search needs) returns)

@@ -1,0 +1,30 @@
+-- `call_made::loudest` meets its contract: as many energies are read as the count asks for. Assumes nothing.
+use mathlib.Core.Path.{ap, _∙_}
+use Prim.Native.Nat.{ℕ}
+use Rattle.laws.specs.Lists.{tab}
+use Rattle.call_log.specs.Log.{floatOf}
+use lib.ListN.{drop}
+use borrow.Author.Needs.{needs}
+use Rattle.call_made.specs.Made.{loudestOn}
+use Rattle.call_made.proofs.Lends.{lends}
+use Rattle.call_made.proofs.loudest.Statement.{statement}
+use Rattle.call_made.proofs.loudest.Tie as tie
+
+returns : tie.Need-returns
+returns c =
+    let s = c .before .before .before in
+    let l = lends (s .before .before .before .area .ensures) (s .before .before .rest .ensures) (s .count-floats .ensures) in
+    c .before .loudest-on .ensures .0 ∙ ap (λ (n : ℕ). loudestOn (tab n (floatOf (drop 1 (s .before .before .before .before .before .args .b .now))))) (l .long)
+
+pub loudest-spec : {M : Type 1} → statement M
+loudest-spec =
+    tie.close
+    (tie.spec
+    (λ c κs. search needs)
+    (λ c κs. search needs)
+    (λ c. search needs)
+    (λ c κs. search needs)
+    (λ c. search needs)
+    (λ c. search needs)
+    (λ c κs. search needs)
+    returns)

@@ -1,0 +1,411 @@
+// The calls of a log (`LMC`), made: the bytes of a whole call and the channels in, the channels and the answer out. New in this port.
+ghost use mathlib.Core.Path.{_≡_};
+ghost use mathlib.Core.Bool.{cond};
+ghost use lib.Dec.{eqb};
+ghost use lib.IntN.{pos};
+ghost use lib.Ieee.{ofBits, binary32};
+ghost use lib.ListN.{length, getD, drop, replicate};
+ghost use Rattle.laws.specs.Lists.{tab};
+ghost use Rattle.call_log.specs.Log.{short, sampleOf, floatOf};
+ghost use Rattle.dct_iv.specs.DctIv as dc;
+ghost use Rattle.call_text.specs.declared.Extra.the-variants.{Nothing, Flag};
+ghost use Rattle.call_made.specs.Made.{floats, pastFloats, pastSamples, answerOf, one, plain, clearAnalysis, clearSynthesis, analyseOn, analyse, playOn, play, fftOn, fft, dct, loudestOn, loudest, setAnalysis, setSynthesis, withAnalysis, withSynthesis, withAnswer, fresh, onNone, onSynthesis, made};
+use call_text::Extra;
+use loudest::Loudest;
+
+// What a call answers: the numbers of its first line, and its output areas, m places of x and n of y.
+pub struct Answer {
+    pub number: u8,
+    pub index: usize,
+    pub extra: Extra,
+    pub x: [f32; 1024],
+    pub m: usize,
+    pub y: [f32; 1024],
+    pub n: usize,
+}
+
+// A channel after a call, and the answer.
+pub struct Analysed {
+    pub channel: analysis::Channel,
+    pub answer: Answer,
+}
+
+pub struct Played {
+    pub channel: synthesis::Channel,
+    pub answer: Answer,
+}
+
+// The channels, and the answer of the last call.
+pub struct Bench {
+    pub analysis: analysis::Channel,
+    pub synthesis: synthesis::Channel,
+    pub answer: Answer,
+}
+
+// Room for a frame of samples, and for what a channel keeps. That each has its length is said again, since lending a part needs it.
+fn samples_room() -> [i16; 1024]
+    ensures { λ r. ⌜ r ≡ replicate 1024 (pos 0) ⌝ }
+    ensures { λ r. ⌜ 1024 ≡ length r ⌝ }
+{
+    [0i16; 1024]
+}
+
+fn samples_300() -> [i16; 300]
+    ensures { λ r. ⌜ r ≡ replicate 300 (pos 0) ⌝ }
+    ensures { λ r. ⌜ 300 ≡ length r ⌝ }
+{
+    [0i16; 300]
+}
+
+fn floats_300() -> [f32; 300]
+    ensures { λ r. ⌜ r ≡ replicate 300 (ofBits binary32 0) ⌝ }
+    ensures { λ r. ⌜ 300 ≡ length r ⌝ }
+{
+    [0.0; 300]
+}
+
+// The values after a count, as many as out has places, and the bytes after all of them.
+fn read_floats<'a>(b: &'a [u8], out: &mut [f32]) -> &'a [u8]
+    ensures { λ r. ⌜ (now r ≡ pastFloats (now (b .entry))) × (now (out .exit) ≡ tab (length (now (out .entry))) (floatOf (now (b .entry)))) ⌝ }
+{
+    call_log::floats(b, out);
+    call_log::rest(b, 2 + 4 * call_log::count(b))
+}
+
+// The answer of a call that has no output area.
+fn plain(number: u8) -> Answer
+    ensures { λ r. ⌜ r ≡ plain number ⌝ }
+{
+    one_area(number, 0, call_log::area(), 0)
+}
+
+// The answer of a call that has one, m places of x.
+fn one_area(number: u8, index: usize, x: [f32; 1024], m: usize) -> Answer
+    ensures { λ r. ⌜ r ≡ one number index x m ⌝ }
+{
+    Answer {
+        number,
+        index,
+        extra: Extra::Nothing,
+        x,
+        m,
+        y: call_log::area(),
+        n: 0,
+    }
+}
+
+// The answer of an analysis frame.
+fn flagged(number: u8, flag: bool, x: [f32; 1024], m: usize, y: [f32; 1024], n: usize) -> Answer
+    ensures { λ r. ⌜ r ≡ answerOf number 0 (Flag flag) x m y n ⌝ }
+{
+    Answer {
+        number,
+        index: 0,
+        extra: Extra::Flag(flag),
+        x,
+        m,
+        y,
+        n,
+    }
+}
+
+// 1: clear of the analysis channel.
+fn clear_analysis(old: analysis::Channel, b: &[u8]) -> Analysed
+    ensures { λ r. ⌜ r ≡ clearAnalysis old (now (b .entry)) ⌝ }
+{
+    let cleared = analysis::clear(call_log::byte_at(b, 1));
+    let answer = plain(cleared.number);
+    if cleared.number == 0 {
+        let channel = cleared.channel;
+        return Analysed { channel, answer };
+    }
+    Analysed {
+        channel: old,
+        answer,
+    }
+}
+
+// 2: analysis frame: the samples, the call.
+fn analyse(channel: analysis::Channel, b: &[u8]) -> Analysed
+    ensures { λ r. ⌜ r ≡ analyse channel (now (b .entry)) ⌝ }
+{
+    let input = call_log::rest(b, 1);
+    let mut room = samples_room();
+    let k = call_log::count_samples(input, &room);
+    analyse_on(channel, input, &mut room[..k])
+}
+
+fn analyse_on(channel: analysis::Channel, b: &[u8], input: &mut [i16]) -> Analysed
+    ensures { λ r. ⌜ r ≡ analyseOn channel (tab (length (now (input .entry))) (sampleOf (now (b .entry)))) (pastSamples (now (b .entry))) ⌝ }
+    ensures { λ r. ⌜ now (input .exit) ≡ tab (length (now (input .entry))) (sampleOf (now (b .entry))) ⌝ }
+{
+    call_log::samples(b, input);
+    let lengths = call_log::rest(b, 2 + 2 * call_log::count(b));
+    let mut x = call_log::area();
+    let mut y = call_log::area();
+    let m = call_log::count_floats(lengths, &x);
+    let n = call_log::count_floats(call_log::rest(lengths, 2), &y);
+    let framed = channel.frame(input, &mut x[..m], &mut y[..n]);
+    let next = framed.channel;
+    Analysed {
+        channel: next,
+        answer: flagged(framed.number, framed.flag, x, m, y, n),
+    }
+}
+
+// 3: clear of the synthesis channel.
+fn clear_synthesis(old: synthesis::Channel, b: &[u8]) -> Played
+    ensures { λ r. ⌜ r ≡ clearSynthesis old (now (b .entry)) ⌝ }
+{
+    let cleared = synthesis::clear(call_log::byte_at(b, 1));
+    let answer = plain(cleared.number);
+    if cleared.number == 0 {
+        let channel = cleared.channel;
+        return Played { channel, answer };
+    }
+    Played {
+        channel: old,
+        answer,
+    }
+}
+
+// 4: synthesis frame: the lines, the call.
+fn play(channel: synthesis::Channel, b: &[u8]) -> Played
+    ensures { λ r. ⌜ r ≡ play channel (now (b .entry)) ⌝ }
+{
+    let input = call_log::rest(b, 1);
+    let mut room = call_log::area();
+    let k = call_log::count_floats(input, &room);
+    play_on(channel, input, &mut room[..k])
+}
+
+fn play_on(channel: synthesis::Channel, b: &[u8], lines: &mut [f32]) -> Played
+    ensures { λ r. ⌜ r ≡ playOn channel (tab (length (now (lines .entry))) (floatOf (now (b .entry)))) (pastFloats (now (b .entry))) ⌝ }
+    ensures { λ r. ⌜ now (lines .exit) ≡ tab (length (now (lines .entry))) (floatOf (now (b .entry))) ⌝ }
+{
+    let length = read_floats(b, lines);
+    let mut x = call_log::area();
+    let m = call_log::count_floats(length, &x);
+    let framed = channel.frame(lines, &mut x[..m]);
+    let next = framed.channel;
+    Played {
+        channel: next,
+        answer: one_area(framed.number, framed.index, x, m),
+    }
+}
+
+// 5: FFT: the real parts, the imaginary parts, the call.
+fn fft(b: &[u8]) -> Answer
+    ensures { λ r. ⌜ r ≡ fft (now (b .entry)) ⌝ }
+{
+    let parts = call_log::rest(b, 4);
+    let mut re = call_log::area();
+    let k = call_log::count_floats(parts, &re);
+    fft_real(b, parts, &mut re[..k])
+}
+
+fn fft_real(b: &[u8], parts: &[u8], re: &mut [f32]) -> Answer
+    ensures { λ r. ⌜ r ≡ fftOn (now (b .entry)) (tab (length (now (re .entry))) (floatOf (now (parts .entry)))) (floats (pastFloats (now (parts .entry)))) (pastFloats (pastFloats (now (parts .entry)))) ⌝ }
+    ensures { λ r. ⌜ now (re .exit) ≡ tab (length (now (re .entry))) (floatOf (now (parts .entry))) ⌝ }
+{
+    let imag = read_floats(parts, re);
+    let mut im = call_log::area();
+    let k = call_log::count_floats(imag, &im);
+    fft_imag(b, imag, re, &mut im[..k])
+}
+
+fn fft_imag(b: &[u8], parts: &[u8], re: &[f32], im: &mut [f32]) -> Answer
+    ensures { λ r. ⌜ r ≡ fftOn (now (b .entry)) (now (re .entry)) (tab (length (now (im .entry))) (floatOf (now (parts .entry)))) (pastFloats (now (parts .entry))) ⌝ }
+    ensures { λ r. ⌜ now (im .exit) ≡ tab (length (now (im .entry))) (floatOf (now (parts .entry))) ⌝ }
+{
+    let lengths = read_floats(parts, im);
+    let mut x = call_log::area();
+    let mut y = call_log::area();
+    let m = call_log::count_floats(lengths, &x);
+    let n = call_log::count_floats(call_log::rest(lengths, 2), &y);
+    let size = call_log::short(call_log::rest(b, 1)) as usize;
+    let is_inverse = call_log::byte_at(b, 3) == 1;
+    let v = kissfft::fft(size, is_inverse, re, im, &mut x[..m], &mut y[..n]);
+    Answer {
+        number: v.number,
+        index: v.index,
+        extra: Extra::Nothing,
+        x,
+        m,
+        y,
+        n,
+    }
+}
+
+// 6: DCT.
+fn dct(b: &[u8]) -> Answer
+    ensures { λ r. ⌜ r ≡ dct (now (b .entry)) ⌝ }
+{
+    let mut x = call_log::area();
+    let m = call_log::count_floats(call_log::rest(b, 3), &x);
+    let v = dct_on(b, &mut x[..m]);
+    one_area(v.number, v.index, x, m)
+}
+
+fn dct_on(b: &[u8], values: &mut [f32]) -> config::Verdict
+    ensures { λ r. ⌜ dc.left r (now (values .exit)) ≡ dc.answer (short (drop 1 (now (b .entry)))) (tab (length (now (values .entry))) (floatOf (drop 3 (now (b .entry))))) ⌝ }
+{
+    call_log::floats(call_log::rest(b, 3), values);
+    dct_iv::dct_iv(call_log::short(call_log::rest(b, 1)) as usize, values)
+}
+
+// 7: loudest band: the energies, the call. The area is its energy.
+fn loudest(b: &[u8]) -> Answer
+    ensures { λ r. ⌜ r ≡ loudest (now (b .entry)) ⌝ }
+{
+    let mut room = call_log::area();
+    let k = call_log::count_floats(call_log::rest(b, 1), &room);
+    loudest_on(b, &mut room[..k])
+}
+
+fn loudest_on(b: &[u8], energies: &mut [f32]) -> Answer
+    ensures { λ r. ⌜ r ≡ loudestOn (tab (length (now (energies .entry))) (floatOf (drop 1 (now (b .entry))))) ⌝ }
+    ensures { λ r. ⌜ now (energies .exit) ≡ tab (length (now (energies .entry))) (floatOf (drop 1 (now (b .entry)))) ⌝ }
+{
+    call_log::floats(call_log::rest(b, 1), energies);
+    let heard = loudest::loudest_band(energies);
+    let found = heard.loudest;
+    let mut x = call_log::area();
+    let Loudest::Loud(band, energy) = found else {
+        return one_area(heard.number, heard.index, x, 0);
+    };
+    x[0] = energy;
+    Answer {
+        number: heard.number,
+        index: heard.index,
+        extra: Extra::Band(band),
+        x,
+        m: 1,
+        y: call_log::area(),
+        n: 0,
+    }
+}
+
+// 9: set of the analysis channel.
+fn set_analysis(b: &[u8]) -> Analysed
+    ensures { λ r. ⌜ r ≡ setAnalysis (now (b .entry)) ⌝ }
+{
+    let input = call_log::rest(b, 2);
+    let mut samples = samples_300();
+    let k = call_log::count_samples(input, &samples);
+    call_log::samples(input, &mut samples[..k]);
+    let config = call_log::byte_at(b, 1);
+    Analysed {
+        channel: analysis::Channel { config, samples },
+        answer: plain(0),
+    }
+}
+
+// 10: set of the synthesis channel.
+fn set_synthesis(b: &[u8]) -> Played
+    ensures { λ r. ⌜ r ≡ setSynthesis (now (b .entry)) ⌝ }
+{
+    let input = call_log::rest(b, 2);
+    let mut memory = floats_300();
+    let k = call_log::count_floats(input, &memory);
+    call_log::floats(input, &mut memory[..k]);
+    let config = call_log::byte_at(b, 1);
+    Played {
+        channel: synthesis::Channel { config, memory },
+        answer: plain(0),
+    }
+}
+
+// Entry. Both channels as a refused clear gives them.
+pub fn fresh() -> Bench
+    ensures { λ r. ⌜ r ≡ fresh ⌝ }
+{
+    let a = analysis::clear(255);
+    let s = synthesis::clear(255);
+    let analysis = a.channel;
+    let synthesis = s.channel;
+    Bench {
+        analysis,
+        synthesis,
+        answer: plain(0),
+    }
+}
+
+impl Bench {
+    // With an analysis channel and an answer.
+    fn analysed(self, made: Analysed) -> Bench
+        ensures { λ r. ⌜ r ≡ withAnalysis self made ⌝ }
+    {
+        let analysis = made.channel;
+        let synthesis = self.synthesis;
+        let answer = made.answer;
+        Bench {
+            analysis,
+            synthesis,
+            answer,
+        }
+    }
+
+    // With a synthesis channel and an answer.
+    fn played(self, made: Played) -> Bench
+        ensures { λ r. ⌜ r ≡ withSynthesis self made ⌝ }
+    {
+        let analysis = self.analysis;
+        let synthesis = made.channel;
+        let answer = made.answer;
+        Bench {
+            analysis,
+            synthesis,
+            answer,
+        }
+    }
+
+    // With an answer.
+    fn answered(self, answer: Answer) -> Bench
+        ensures { λ r. ⌜ r ≡ withAnswer self answer ⌝ }
+    {
+        let analysis = self.analysis;
+        let synthesis = self.synthesis;
+        Bench {
+            analysis,
+            synthesis,
+            answer,
+        }
+    }
+
+    // A call on no channel, if it is one.
+    fn on_none(self, kind: u8, b: &[u8]) -> Bench
+        ensures { λ r. ⌜ r ≡ onNone self kind (now (b .entry)) ⌝ }
+    {
+        match kind {
+            5 => self.answered(fft(b)),
+            6 => self.answered(dct(b)),
+            7 => self.answered(loudest(b)),
+            _ => self,
+        }
+    }
+
+    // A call on the synthesis channel, or on none.
+    fn on_synthesis(self, kind: u8, b: &[u8]) -> Bench
+        ensures { λ r. ⌜ r ≡ onSynthesis self kind (now (b .entry)) ⌝ }
+    {
+        match kind {
+            3 => self.played(clear_synthesis(self.synthesis, b)),
+            4 => self.played(play(self.synthesis, b)),
+            10 => self.played(set_synthesis(b)),
+            _ => self.on_none(kind, b),
+        }
+    }
+
+    // Entry. After a call of a kind, whose bytes are b.
+    pub fn made(self, kind: u8, b: &[u8]) -> Bench
+        ensures { λ r. ⌜ r ≡ made self kind (now (b .entry)) ⌝ }
+    {
+        match kind {
+            1 => self.analysed(clear_analysis(self.analysis, b)),
+            2 => self.analysed(analyse(self.analysis, b)),
+            9 => self.analysed(set_analysis(b)),
+            _ => self.on_synthesis(kind, b),
+        }
+    }
+}
