@@ -22,7 +22,7 @@ loop-holds c = (refl, refl, c .before .before .before .pre)
 add-held : tie.Need-add-held Inv-loop μ-loop
 add-held c =
     let r = c .before .before .before .before .before .before .before .before .before .ready in
-    omega (arith, at-most (r .result .to - r .result .from) (drop (r .result .from) (r .last .0)), c .before .before .before .step .ensures, r .ensures)
+    omega (arith, at-most (r .result .to - r .result .from) (drop (r .result .from) (r .last .0)), c .before .before .before .step .ensures .1 .1, r .ensures)
 
 same-length : tie.Need-same-length Inv-loop μ-loop
 same-length c = c .before .before .before .before .before .before .before .before .before .before .before .before .ready .kept .0 ∙ c .before .before .before .before .before .before .before .before .before .before .before .before .before .before .before .loop .inv .0
@@ -35,7 +35,7 @@ loop-again c =
     let r = c .before .before .before .before .before .before .before .before .before .before .before .before .before .before .ready in
     let s = c .before .before .before .before .before .before .before .before .step in
     let l = c .before .before .before .before .before .before .before .before .before .before .before .before .before .before .before .before .before .loop in
-    let used : r .result .from + s .result .used ≤ r .result .to = omega (arith, at-most (r .result .to - r .result .from) (drop (r .result .from) (r .last .0)), s .ensures, r .ensures) in
+    let used : r .result .from + s .result .used ≤ r .result .to = omega (arith, at-most (r .result .to - r .result .from) (drop (r .result .from) (r .last .0)), s .ensures .1 .1, r .ensures) in
     (r .kept .0 ∙ l .inv .0, s .kept .1 .1 .0 ∙ l .inv .1, record { ordered = used; inside = r .ensures .inside })
 
 pub calls-spec : {M : Type 1} → statement M
