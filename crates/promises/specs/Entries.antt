@@ -120,6 +120,8 @@ use Rattle.call_log.proofs.call_taken
 use Rattle.call_text.proofs.put_call
 use Rattle.call_text.proofs.put_show
 use Rattle.call_text.proofs.put_last
+use Rattle.call_made.proofs.fresh
+use Rattle.call_made.proofs.Bench.made
 use Rattle.c_api.proofs.loamscarf_fft
 use Rattle.c_api.proofs.loamscarf_dct_iv
 use Rattle.c_api.proofs.loamscarf_analysis_clear
@@ -291,6 +293,9 @@ pub record Entries (w : World) : Type 1 where
   pub put-call : Entry w put_call.ended put_call.clauses
   pub put-show : Entry w put_show.ended put_show.clauses
   pub put-last : Entry w put_last.ended put_last.clauses
+  -- call_made
+  pub fresh : Entry w fresh.ended fresh.clauses
+  pub made : Entry w made.ended made.clauses
   -- c_api
   pub c-fft : Entry w loamscarf_fft.ended loamscarf_fft.clauses
   pub c-dct-iv : Entry w loamscarf_dct_iv.ended loamscarf_dct_iv.clauses

@@ -8,6 +8,27 @@ use Rattle.call_made.proofs.Lends.{lends}
 use Rattle.call_made.proofs.analyse.Statement.{statement}
 use Rattle.call_made.proofs.analyse.Tie as tie
 
+rest-requires : tie.Need-rest-requires
+rest-requires c κs = search needs
+
+samples-room-requires : tie.Need-samples-room-requires
+samples-room-requires c κs = search needs
+
+slice-aggregate-count-samples : tie.Need-slice-aggregate-count-samples
+slice-aggregate-count-samples c = search needs
+
+count-samples-requires : tie.Need-count-samples-requires
+count-samples-requires c κs = search needs
+
+array-borrow-prefix-room : tie.Need-array-borrow-prefix-room
+array-borrow-prefix-room c = search needs
+
+slice-aggregate-analyse-on : tie.Need-slice-aggregate-analyse-on
+slice-aggregate-analyse-on c = search needs
+
+analyse-on-requires : tie.Need-analyse-on-requires
+analyse-on-requires c κs = search needs
+
 returns : tie.Need-returns
 returns c =
     let s = c .before .before .before in
@@ -19,11 +40,11 @@ pub analyse-spec : {M : Type 1} → statement M
 analyse-spec =
     tie.close
     (tie.spec
-    (λ c κs. search needs)
-    (λ c κs. search needs)
-    (λ c. search needs)
-    (λ c κs. search needs)
-    (λ c. search needs)
-    (λ c. search needs)
-    (λ c κs. search needs)
+    rest-requires
+    samples-room-requires
+    slice-aggregate-count-samples
+    count-samples-requires
+    array-borrow-prefix-room
+    slice-aggregate-analyse-on
+    analyse-on-requires
     returns)

@@ -8,6 +8,15 @@ use Rattle.call_made.proofs.Answers.{new-is, old-is}
 use Rattle.call_made.proofs.clear_synthesis.Statement.{statement}
 use Rattle.call_made.proofs.clear_synthesis.Tie as tie
 
+byte-at-requires : tie.Need-byte-at-requires
+byte-at-requires c κs = search needs
+
+clear-requires : tie.Need-clear-requires
+clear-requires c κs = search needs
+
+plain-requires : tie.Need-plain-requires
+plain-requires c κs = search needs
+
 returns : tie.Need-returns
 unfolding clearSynthesis
 returns c =
@@ -22,4 +31,4 @@ returns-2 c =
 
 pub clear-synthesis-spec : {M : Type 1} → statement M
 clear-synthesis-spec =
-    tie.close (tie.spec (λ c κs. search needs) (λ c κs. search needs) (λ c κs. search needs) returns returns-2)
+    tie.close (tie.spec byte-at-requires clear-requires plain-requires returns returns-2)

@@ -12,6 +12,30 @@ use Rattle.call_made.proofs.Answers.{told-is}
 use Rattle.call_made.proofs.loudest_on.Statement.{statement}
 use Rattle.call_made.proofs.loudest_on.Tie as tie
 
+rest-requires : tie.Need-rest-requires
+rest-requires c κs = search needs
+
+floats-requires : tie.Need-floats-requires
+floats-requires c κs = search needs
+
+loudest-band-requires : tie.Need-loudest-band-requires
+loudest-band-requires c κs = search needs
+
+area-requires : tie.Need-area-requires
+area-requires c κs = search needs
+
+enum-known-found : tie.Need-enum-known-found
+enum-known-found c = search needs
+
+enum-told : tie.Need-enum-told
+enum-told c = search needs
+
+one-area-requires : tie.Need-one-area-requires
+one-area-requires c κs = search needs
+
+same-length : tie.Need-same-length
+same-length c = search needs
+
 returns : tie.Need-returns
 returns c =
     let h = c .before .before .before .before .loudest-band in
@@ -22,6 +46,15 @@ returns c =
           ∙ told-is (h .result) (h .ensures) read (c .before .enum-told .given .1),
       read,
     )
+
+array-write-x : tie.Need-array-write-x
+array-write-x c = search needs
+
+area-requires-2 : tie.Need-area-requires-2
+area-requires-2 c κs = search needs
+
+same-length-2 : tie.Need-same-length-2
+same-length-2 c = search needs
 
 returns-2 : tie.Need-returns-2
 returns-2 c =
@@ -38,16 +71,16 @@ pub loudest-on-spec : {M : Type 1} → statement M
 loudest-on-spec =
     tie.close
     (tie.spec
-    (λ c κs. search needs)
-    (λ c κs. search needs)
-    (λ c κs. search needs)
-    (λ c κs. search needs)
-    (λ c. search needs)
-    (λ c. search needs)
-    (λ c κs. search needs)
-    (λ c. search needs)
+    rest-requires
+    floats-requires
+    loudest-band-requires
+    area-requires
+    enum-known-found
+    enum-told
+    one-area-requires
+    same-length
     returns
-    (λ c. search needs)
-    (λ c κs. search needs)
-    (λ c. search needs)
+    array-write-x
+    area-requires-2
+    same-length-2
     returns-2)

@@ -4,8 +4,26 @@ use borrow.Author.Needs.{needs}
 use Rattle.replay.proofs.put.Statement.{statement}
 use Rattle.replay.proofs.put.Tie as tie
 
+slice-aggregate-put-show : tie.Need-slice-aggregate-put-show
+slice-aggregate-put-show c = search needs
+
+slice-aggregate-put-show-2 : tie.Need-slice-aggregate-put-show-2
+slice-aggregate-put-show-2 c = search needs
+
+put-show-requires : tie.Need-put-show-requires
+put-show-requires c κs = search needs
+
+same-length : tie.Need-same-length
+same-length c = search needs
+
 returns : tie.Need-returns
 returns c = simp (eq-eqb (c .before .before .before .before .before .before .before .before .before .before .before .before .args .kind) 8 (c .before .before .before .before .before .before .before .before .before .before .if1 .taken)) (c .before .before .put-show .ensures)
+
+put-answer-requires : tie.Need-put-answer-requires
+put-answer-requires c κs = search needs
+
+same-length-2 : tie.Need-same-length-2
+same-length-2 c = search needs
 
 returns-2 : tie.Need-returns-2
 returns-2 c = simp (ne-eqb (c .before .before .before .before .before .before .args .kind) 8 (c .before .before .before .before .if1 .left)) (c .before .before .put-answer .ensures)
@@ -14,11 +32,11 @@ pub put-spec : {M : Type 1} → statement M
 put-spec =
     tie.close
     (tie.spec
-    (λ c. search needs)
-    (λ c. search needs)
-    (λ c κs. search needs)
-    (λ c. search needs)
+    slice-aggregate-put-show
+    slice-aggregate-put-show-2
+    put-show-requires
+    same-length
     returns
-    (λ c κs. search needs)
-    (λ c. search needs)
+    put-answer-requires
+    same-length-2
     returns-2)

@@ -15,6 +15,15 @@ returns c =
     let x = no-room (a .bench) (a .b .now) (a .out .now) (a .at) (a .count) (c .if1 .taken) in
     ((x .0, refl), (x .1, omega arith))
 
+taken-requires : tie.Need-taken-requires
+taken-requires c κs = search needs
+
+last-requires : tie.Need-last-requires
+last-requires c κs = search needs
+
+same-length : tie.Need-same-length
+same-length c = search needs
+
 returns-2 : tie.Need-returns-2
 unfolding benchAfter
 returns-2 c =
@@ -22,8 +31,20 @@ returns-2 c =
     let x = last-line (a .bench) (a .b .now) (a .out .now) (a .at) (a .count) (c .before .before .before .before .before .before .if1 .left) (c .before .before .before .before .before .taken .ensures .0) (c .before .before .before .before .if2 .taken) (c .before .before .last .ensures) in
     ((x .0, refl), (x .1, omega arith))
 
+byte-at-requires : tie.Need-byte-at-requires
+byte-at-requires c κs = search needs
+
 slice-aggregate-made : tie.Need-slice-aggregate-made
 slice-aggregate-made c = sym (length-take-le (c .before .before .before .taken .result) (c .before .before .before .before .before .before .before .args .b .now) (c .before .before .before .taken .ensures .1))
+
+made-requires : tie.Need-made-requires
+made-requires c κs = search needs
+
+put-requires : tie.Need-put-requires
+put-requires c κs = search needs
+
+same-length-2 : tie.Need-same-length-2
+same-length-2 c = search needs
 
 returns-3 : tie.Need-returns-3
 returns-3 c =
@@ -40,13 +61,13 @@ step-spec =
     tie.close
     (tie.spec
     returns
-    (λ c κs. search needs)
-    (λ c κs. search needs)
-    (λ c. search needs)
+    taken-requires
+    last-requires
+    same-length
     returns-2
-    (λ c κs. search needs)
+    byte-at-requires
     slice-aggregate-made
-    (λ c κs. search needs)
-    (λ c κs. search needs)
-    (λ c. search needs)
+    made-requires
+    put-requires
+    same-length-2
     returns-3)

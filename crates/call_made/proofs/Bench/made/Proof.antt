@@ -7,6 +7,27 @@ use Rattle.call_made.specs.Made.{withAnalysis, made}
 use Rattle.call_made.proofs.Bench.made.Statement.{statement}
 use Rattle.call_made.proofs.Bench.made.Tie as tie
 
+clear-analysis-requires : tie.Need-clear-analysis-requires
+clear-analysis-requires c κs = search needs
+
+analysed-requires : tie.Need-analysed-requires
+analysed-requires c κs = search needs
+
+analyse-requires : tie.Need-analyse-requires
+analyse-requires c κs = search needs
+
+analysed-requires-2 : tie.Need-analysed-requires-2
+analysed-requires-2 c κs = search needs
+
+set-analysis-requires : tie.Need-set-analysis-requires
+set-analysis-requires c κs = search needs
+
+analysed-requires-3 : tie.Need-analysed-requires-3
+analysed-requires-3 c κs = search needs
+
+on-synthesis-requires : tie.Need-on-synthesis-requires
+on-synthesis-requires c κs = search needs
+
 returns : tie.Need-returns
 unfolding made
 returns c =
@@ -37,13 +58,13 @@ pub made-spec : {M : Type 1} → statement M
 made-spec =
     tie.close
     (tie.spec
-    (λ c κs. search needs)
-    (λ c κs. search needs)
-    (λ c κs. search needs)
-    (λ c κs. search needs)
-    (λ c κs. search needs)
-    (λ c κs. search needs)
-    (λ c κs. search needs)
+    clear-analysis-requires
+    analysed-requires
+    analyse-requires
+    analysed-requires-2
+    set-analysis-requires
+    analysed-requires-3
+    on-synthesis-requires
     returns
     returns-2
     returns-3
