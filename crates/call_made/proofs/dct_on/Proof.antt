@@ -8,27 +8,6 @@ use borrow.Author.Needs.{needs}
 use Rattle.call_made.proofs.dct_on.Statement.{statement}
 use Rattle.call_made.proofs.dct_on.Tie as tie
 
-rest-requires : tie.Need-rest-requires
-rest-requires c κs = search needs
-
-floats-requires : tie.Need-floats-requires
-floats-requires c κs = search needs
-
-rest-requires-2 : tie.Need-rest-requires-2
-rest-requires-2 c κs = search needs
-
-short-requires : tie.Need-short-requires
-short-requires c κs = search needs
-
-cast-dct-iv : tie.Need-cast-dct-iv
-cast-dct-iv c = search needs
-
-dct-iv-requires : tie.Need-dct-iv-requires
-dct-iv-requires c κs = search needs
-
-same-length : tie.Need-same-length
-same-length c = search needs
-
 returns : tie.Need-returns
 returns c =
     let s = c .before .before .before .before in
@@ -41,11 +20,11 @@ pub dct-on-spec : {M : Type 1} → statement M
 dct-on-spec =
     tie.close
     (tie.spec
-    rest-requires
-    floats-requires
-    rest-requires-2
-    short-requires
-    cast-dct-iv
-    dct-iv-requires
-    same-length
+    (λ c κs. search needs)
+    (λ c κs. search needs)
+    (λ c κs. search needs)
+    (λ c κs. search needs)
+    (λ c. search needs)
+    (λ c κs. search needs)
+    (λ c. search needs)
     returns)

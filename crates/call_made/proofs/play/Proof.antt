@@ -8,27 +8,6 @@ use Rattle.call_made.proofs.Lends.{lends}
 use Rattle.call_made.proofs.play.Statement.{statement}
 use Rattle.call_made.proofs.play.Tie as tie
 
-rest-requires : tie.Need-rest-requires
-rest-requires c κs = search needs
-
-area-requires : tie.Need-area-requires
-area-requires c κs = search needs
-
-slice-aggregate-count-floats : tie.Need-slice-aggregate-count-floats
-slice-aggregate-count-floats c = search needs
-
-count-floats-requires : tie.Need-count-floats-requires
-count-floats-requires c κs = search needs
-
-array-borrow-prefix-room : tie.Need-array-borrow-prefix-room
-array-borrow-prefix-room c = search needs
-
-slice-aggregate-play-on : tie.Need-slice-aggregate-play-on
-slice-aggregate-play-on c = search needs
-
-play-on-requires : tie.Need-play-on-requires
-play-on-requires c κs = search needs
-
 returns : tie.Need-returns
 returns c =
     let s = c .before .before .before in
@@ -40,11 +19,11 @@ pub play-spec : {M : Type 1} → statement M
 play-spec =
     tie.close
     (tie.spec
-    rest-requires
-    area-requires
-    slice-aggregate-count-floats
-    count-floats-requires
-    array-borrow-prefix-room
-    slice-aggregate-play-on
-    play-on-requires
+    (λ c κs. search needs)
+    (λ c κs. search needs)
+    (λ c. search needs)
+    (λ c κs. search needs)
+    (λ c. search needs)
+    (λ c. search needs)
+    (λ c κs. search needs)
     returns)

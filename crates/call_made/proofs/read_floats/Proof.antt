@@ -6,24 +6,6 @@ use borrow.Author.Needs.{needs}
 use Rattle.call_made.proofs.read_floats.Statement.{statement}
 use Rattle.call_made.proofs.read_floats.Tie as tie
 
-floats-requires : tie.Need-floats-requires
-floats-requires c κs = search needs
-
-count-requires : tie.Need-count-requires
-count-requires c κs = search needs
-
-mul-rest : tie.Need-mul-rest
-mul-rest c = search needs
-
-add-rest : tie.Need-add-rest
-add-rest c = search needs
-
-rest-requires : tie.Need-rest-requires
-rest-requires c κs = search needs
-
-same-length : tie.Need-same-length
-same-length c = search needs
-
 returns : tie.Need-returns
 returns c =
     let b = c .before .before .before .before .before .before .before .before .args .b .now in
@@ -32,4 +14,4 @@ returns c =
 pub read-floats-spec : {M : Type 1} → statement M
 read-floats-spec =
     tie.close
-    (tie.spec floats-requires count-requires mul-rest add-rest rest-requires same-length returns)
+    (tie.spec (λ c κs. search needs) (λ c κs. search needs) (λ c. search needs) (λ c. search needs) (λ c κs. search needs) (λ c. search needs) returns)

@@ -7,24 +7,6 @@ use Rattle.call_made.specs.Made.{withAnswer, onNone}
 use Rattle.call_made.proofs.Bench.on_none.Statement.{statement}
 use Rattle.call_made.proofs.Bench.on_none.Tie as tie
 
-fft-requires : tie.Need-fft-requires
-fft-requires c κs = search needs
-
-answered-requires : tie.Need-answered-requires
-answered-requires c κs = search needs
-
-dct-requires : tie.Need-dct-requires
-dct-requires c κs = search needs
-
-answered-requires-2 : tie.Need-answered-requires-2
-answered-requires-2 c κs = search needs
-
-loudest-requires : tie.Need-loudest-requires
-loudest-requires c κs = search needs
-
-answered-requires-3 : tie.Need-answered-requires-3
-answered-requires-3 c κs = search needs
-
 returns : tie.Need-returns
 unfolding onNone
 returns c =
@@ -55,12 +37,12 @@ pub on-none-spec : {M : Type 1} → statement M
 on-none-spec =
     tie.close
     (tie.spec
-    fft-requires
-    answered-requires
-    dct-requires
-    answered-requires-2
-    loudest-requires
-    answered-requires-3
+    (λ c κs. search needs)
+    (λ c κs. search needs)
+    (λ c κs. search needs)
+    (λ c κs. search needs)
+    (λ c κs. search needs)
+    (λ c κs. search needs)
     returns
     returns-2
     returns-3

@@ -7,27 +7,6 @@ use Rattle.call_made.specs.Made.{withSynthesis, onSynthesis}
 use Rattle.call_made.proofs.Bench.on_synthesis.Statement.{statement}
 use Rattle.call_made.proofs.Bench.on_synthesis.Tie as tie
 
-clear-synthesis-requires : tie.Need-clear-synthesis-requires
-clear-synthesis-requires c κs = search needs
-
-played-requires : tie.Need-played-requires
-played-requires c κs = search needs
-
-play-requires : tie.Need-play-requires
-play-requires c κs = search needs
-
-played-requires-2 : tie.Need-played-requires-2
-played-requires-2 c κs = search needs
-
-set-synthesis-requires : tie.Need-set-synthesis-requires
-set-synthesis-requires c κs = search needs
-
-played-requires-3 : tie.Need-played-requires-3
-played-requires-3 c κs = search needs
-
-on-none-requires : tie.Need-on-none-requires
-on-none-requires c κs = search needs
-
 returns : tie.Need-returns
 unfolding onSynthesis
 returns c =
@@ -58,13 +37,13 @@ pub on-synthesis-spec : {M : Type 1} → statement M
 on-synthesis-spec =
     tie.close
     (tie.spec
-    clear-synthesis-requires
-    played-requires
-    play-requires
-    played-requires-2
-    set-synthesis-requires
-    played-requires-3
-    on-none-requires
+    (λ c κs. search needs)
+    (λ c κs. search needs)
+    (λ c κs. search needs)
+    (λ c κs. search needs)
+    (λ c κs. search needs)
+    (λ c κs. search needs)
+    (λ c κs. search needs)
     returns
     returns-2
     returns-3
