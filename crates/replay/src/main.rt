@@ -1,5 +1,6 @@
 // Replays a log of calls: reads it on standard input, makes each call, and prints what the library answers.
-// What a call's bytes mean is proved in call_log, its answer in call_made, and the text in call_text; here nothing is stated but that it is safe and ends.
+// What a call's bytes mean is proved in call_log, its answer in call_made, its text in call_text, and how a step puts them together here. Of what
+// reads and writes nothing is stated but that it is safe and ends.
 ghost use Prim.Native.Nat.{_≤_};
 ghost use mathlib.Core.Path.{_≡_};
 ghost use lib.ListN.{length};
