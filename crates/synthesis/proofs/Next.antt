@@ -14,7 +14,7 @@ use Rattle.windows.proofs.Entries.{window-length}
 use Rattle.twiddles.specs.Twiddles.{gain}
 use Rattle.laws.specs.Numbers.{zero32}
 use Rattle.synthesis_steps.proofs.Lengths.{length-remains, length-output, last-output}
-use Rattle.synthesis_samples.proofs.Made.{length-places}
+use Rattle.synthesis_frame.proofs.Lengths.{length-places}
 use Rattle.synthesis_samples.specs.Samples.{placesOf, samplesOf, memoryOf}
 use Rattle.synthesis.specs.Synthesis.{keptOf, channelOf, held}
 

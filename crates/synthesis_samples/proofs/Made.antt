@@ -14,18 +14,9 @@ use Rattle.config.proofs.Sound.{sound, each}
 use Rattle.windows.specs.Windows.{window, Numbers}
 use Rattle.windows.proofs.Entries.{window-length, window-numbers, of-arm}
 use Rattle.twiddles.specs.Twiddles.{gain}
-use Rattle.dct_iv.specs.DctIv.{dctIv}
-use Rattle.dct_iv.proofs.Placed.{length-dctIv}
-use Rattle.synthesis_steps.specs.Places.{padded, unfolded, scaled, output, remains}
-use Rattle.synthesis_steps.proofs.Places.{length-padded, length-scaled, length-windowed}
-use Rattle.synthesis_steps.proofs.Mirrors.{length-unfolded}
-use Rattle.synthesis_samples.specs.Samples.{places, placesOf, samplesOf, memoryOf}
-
-pub length-places : (h : ℕ) (g : Float) (w : List ℕ) (x : List Float) → length x ≤ 2 * h → length w ≡ 4 * h → length (places h g w x) ≡ 4 * h
-unfolding places
-length-places h g w x b e =
-    let l = length-scaled g (unfolded h (dctIv (padded (2 * h) x))) ∙ length-unfolded h (dctIv (padded (2 * h) x)) (length-dctIv (padded (2 * h) x) ∙ length-padded (2 * h) x b) in
-    length-windowed w (scaled g (unfolded h (dctIv (padded (2 * h) x)))) (e ∙ sym l) ∙ l
+use Rattle.synthesis_steps.specs.Places.{output, remains}
+use Rattle.synthesis_frame.specs.Frame.{places}
+use Rattle.synthesis_samples.specs.Samples.{placesOf, samplesOf, memoryOf}
 
 -- what the step functions ask of a configuration, in h = half c
 pub record Asked (c : ℕ) : Type 0 where

@@ -1,12 +1,12 @@
--- `synthesis_samples::apply_mdct_inverse` meets its contract: its callees, one after the other. Assumes nothing.
+-- `synthesis_frame::apply_mdct_inverse` meets its contract: its callees, one after the other. Assumes nothing.
 use mathlib.Core.Path.{sym, ap, subst, _∙_}
 use Prim.Native.Nat.{ℕ}
 use lib.Dec.{T}
 use borrow.Author.Needs.{needs}
 use Rattle.config.specs.Config.{among, dctLengths}
 use Rattle.synthesis_steps.specs.Places.{unfolded, scaled}
-use Rattle.synthesis_samples.proofs.apply_mdct_inverse.Statement.{statement}
-use Rattle.synthesis_samples.proofs.apply_mdct_inverse.Tie as tie
+use Rattle.synthesis_frame.proofs.apply_mdct_inverse.Statement.{statement}
+use Rattle.synthesis_frame.proofs.apply_mdct_inverse.Tie as tie
 
 run-requires : tie.Need-run-requires
 run-requires c κs = subst (λ (n : ℕ). T (among dctLengths n)) (sym (c .before .before .before .pre .1)) (c .before .before .before .pre .3)

@@ -1,4 +1,4 @@
--- `synthesis_samples::run` meets its contract: its callees, one after the other. Assumes nothing.
+-- `synthesis_frame::run` meets its contract: its callees, one after the other. Assumes nothing.
 use mathlib.Core.Path.{_≡_, ap, _∙_}
 use mathlib.Core.List.{List}
 use Prim.Native.Nat.{ℕ, _*_}
@@ -8,9 +8,9 @@ use lib.Ieee.{Float}
 use borrow.Author.Needs.{needs}
 use Rattle.dct_iv.specs.DctIv.{dctIv}
 use Rattle.synthesis_steps.specs.Places.{padded, unfolded, scaled, windowed, output, remains}
-use Rattle.synthesis_samples.specs.Samples.{places}
-use Rattle.synthesis_samples.proofs.run.Statement.{statement}
-use Rattle.synthesis_samples.proofs.run.Tie as tie
+use Rattle.synthesis_frame.specs.Frame.{places}
+use Rattle.synthesis_frame.proofs.run.Statement.{statement}
+use Rattle.synthesis_frame.proofs.run.Tie as tie
 
 returns : tie.Need-returns
 unfolding places
