@@ -115,15 +115,16 @@ impl Channel {
         ensures { λ r. ⌜ accepted (self .config) (held self) (now (input .entry)) ≡ outcome r (now (lines .exit)) (now (energies .exit)) ⌝ }
     {
         let config = self.config;
-        let samples = self.samples();
+        let mut samples = self.samples();
         let z = config::z(config);
         let keep = input.len() - z;
         analysis_lines::lines_of(config, &samples[..keep], input, lines);
         let flag = measured(config, lines, energies);
+        analysis_steps::keep(input, z, &mut samples);
         Framed {
             number: 0,
             flag,
-            channel: Channel::new(config, analysis_steps::kept(input, z)),
+            channel: Channel::new(config, samples),
         }
     }
 

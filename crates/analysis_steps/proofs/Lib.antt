@@ -1,3 +1,4 @@
 pub mod Parts
 pub mod Sums
 pub mod Buffers
+pub mod Folds

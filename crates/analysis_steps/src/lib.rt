@@ -1,16 +1,18 @@
-// The steps of an analysis frame, but for the DCT: time buffer, fold, gain, energies, flag. They know no configuration.
+// The steps of an analysis frame, but for the DCT: fold, gain, energies, flag, and what the next frame's fold will read. They know no configuration.
 // Ported from src/encoder/modified_dct.rs of lc3-codec 0.2.0, and changed: a function for each step, lengths and tables as arguments,
-// counted loops in place of iterators.
+// counted loops in place of iterators; and the time buffer is not made: the fold reads its places from the past and the frame.
 ghost use mathlib.Core.Path.{_≡_};
 ghost use mathlib.Core.List.{_++_};
 ghost use Prim.Native.Nat.{_+_, _-_, _*_, _/_, _≤_, _<_};
 ghost use lib.IntN.{pos};
-ghost use lib.ListN.{length, drop, replicate};
+ghost use lib.ListN.{length, getD, drop, replicate};
 ghost use lib.Seq.{paste};
+ghost use lib.Ieee.{binary32, sub, mul, neg, ofBits};
 ghost use Rattle.laws.specs.Lists.{tab};
+ghost use Rattle.laws.specs.Numbers.{zero32};
 ghost use Rattle.windows.specs.Windows.{Numbers};
 ghost use Rattle.analysis_steps.specs.Buffer.{bufferOf, bufferStep};
-ghost use Rattle.analysis_steps.specs.Fold.{weighed, foldLow, foldHigh, folded, gained};
+ghost use Rattle.analysis_steps.specs.Fold.{weighed, foldHigh, folded, gained};
 ghost use Rattle.analysis_steps.specs.Energy.{energy, energies, total, exceeds, Rising};
 
 // The samples of src from place at of dst on.
@@ -25,13 +27,6 @@ fn copy(dst: &mut [i16], at: usize, src: &[i16])
     }
 }
 
-// Zeros by a function, so that a caller's goals do not write them out.
-fn silence_960() -> [i16; 960]
-    ensures { λ r. ⌜ r ≡ replicate 960 (pos 0) ⌝ }
-{
-    [0i16; 960]
-}
-
 // Inner. Zeros for a channel.
 pub fn silence_300() -> [i16; 300]
     ensures { λ r. ⌜ r ≡ replicate 300 (pos 0) ⌝ }
@@ -39,26 +34,24 @@ pub fn silence_300() -> [i16; 300]
     [0i16; 300]
 }
 
-// Inner. The time buffer of 2 nf samples after its step, then zeros to the end of the array. `past` is what the step reads of the buffer before.
-pub fn update_time_buffer(past: &[i16], input: &[i16], z: usize) -> [i16; 960]
-    requires { ⌜ (length (now past) + z ≡ length (now input)) × (length (now input) ≤ 480) ⌝ }
-    ensures { λ r. ⌜ r ≡ bufferStep (length (now (input .entry))) z (bufferOf (length (now (input .entry))) z (now (past .entry))) (now (input .entry))
-        ++ replicate (960 - 2 * length (now (input .entry))) (pos 0) ⌝ }
+// All of `to` zeros.
+fn silence(to: &mut [i16])
+    ensures { λ _. ⌜ now (to .exit) ≡ replicate (length (now (to .entry))) (pos 0) ⌝ }
 {
-    let mut t = silence_960();
-    copy(&mut t, 0, past);
-    copy(&mut t, past.len(), input);
-    t
+    let mut i = 0;
+    while i < to.len() {
+        to[i] = 0;
+        i += 1;
+    }
 }
 
-// Inner. What the next step will read: the frame's last samples, and zeros to the end of the array.
-pub fn kept(input: &[i16], z: usize) -> [i16; 300]
-    requires { ⌜ (z ≤ length (now input)) × (length (now input) ≤ 300 + z) ⌝ }
-    ensures { λ r. ⌜ r ≡ drop z (now (input .entry)) ++ replicate (300 - length (drop z (now (input .entry)))) (pos 0) ⌝ }
+// Inner. What the next step will read, in place of what this one read: the frame's last samples, and zeros to the end.
+pub fn keep(input: &[i16], z: usize, samples: &mut [i16])
+    requires { ⌜ (z ≤ length (now input)) × (length (now input) ≤ length (now samples) + z) ⌝ }
+    ensures { λ _. ⌜ now (samples .exit) ≡ drop z (now (input .entry)) ++ replicate (length (now (samples .entry)) - length (drop z (now (input .entry)))) (pos 0) ⌝ }
 {
-    let mut s = silence_300();
-    copy(&mut s, 0, &input[z..]);
-    s
+    silence(samples);
+    copy(samples, 0, &input[z..]);
 }
 
 // Sample k by the window.
@@ -69,39 +62,93 @@ fn weighed(t: &[i16], w: &[u32], k: usize) -> f32
     t[k] as f32 * windows::weight(w, k)
 }
 
-// The first half of the fold, h = nf / 2 places.
-fn fold_low(t: &[i16], w: &[u32], h: usize, out: &mut [f32])
-    requires { ⌜ (length (now out) ≡ h) × (h ≤ 240) × (length (now t) ≡ 4 * h) × (length (now w) ≡ 4 * h) × Numbers (now w) ⌝ }
-    ensures { λ _. ⌜ now (out .exit) ≡ tab h (foldLow h (now (w .entry)) (now (t .entry))) ⌝ }
+// A run of the fold that reads the frame alone, backwards and forwards from place from. The window is given from the frame's first place on.
+fn fold_frame(x: &[i16], w: &[u32], from: usize, out: &mut [f32])
+    requires { ⌜ (length (now out) ≤ from) × (from + length (now out) ≤ length (now x)) × (length (now x) ≤ length (now w)) × Numbers (now w) ⌝ }
+    ensures { λ _. ⌜ now (out .exit) ≡ tab (length (now (out .entry))) (λ i.
+        sub binary32 (neg (weighed (now (x .entry)) (now (w .entry)) (from - 1 - i))) (weighed (now (x .entry)) (now (w .entry)) (from + i))) ⌝ }
 {
     let mut i = 0;
-    while i < h {
-        out[i] = -weighed(t, w, 3 * h - 1 - i) - weighed(t, w, 3 * h + i);
+    while i < out.len() {
+        out[i] = -weighed(x, w, from - 1 - i) - weighed(x, w, from + i);
         i += 1;
     }
 }
 
-// The second half of the fold.
-fn fold_high(t: &[i16], w: &[u32], h: usize, out: &mut [f32])
-    requires { ⌜ (length (now out) ≡ h) × (h ≤ 240) × (length (now t) ≡ 4 * h) × (length (now w) ≡ 4 * h) × Numbers (now w) ⌝ }
-    ensures { λ _. ⌜ now (out .exit) ≡ tab h (foldHigh h (now (w .entry)) (now (t .entry))) ⌝ }
+// The run that reads the frame backwards, and forwards the zeros behind it. A zero's product with the window stays: it decides the sign of a zero.
+fn fold_zeros(x: &[i16], w: &[u32], from: usize, out: &mut [f32])
+    requires { ⌜ (length (now out) ≤ from) × (from ≤ length (now x)) × (length (now x) + length (now out) ≤ length (now w)) × Numbers (now w) ⌝ }
+    ensures { λ _. ⌜ now (out .exit) ≡ tab (length (now (out .entry))) (λ i.
+        sub binary32 (neg (weighed (now (x .entry)) (now (w .entry)) (from - 1 - i)))
+        (mul binary32 zero32 (ofBits binary32 (getD (now (w .entry)) (length (now (x .entry)) + i) 0)))) ⌝ }
 {
     let mut i = 0;
-    while i < h {
-        out[i] = weighed(t, w, i) - weighed(t, w, 2 * h - 1 - i);
+    while i < out.len() {
+        out[i] = -weighed(x, w, from - 1 - i) - 0.0 * windows::weight(w, x.len() + i);
         i += 1;
     }
 }
 
-// Inner. The time buffer t of 2 nf samples, folded with the window w to nf values.
-pub fn fold(t: &[i16], w: &[u32], out: &mut [f32])
-    requires { ⌜ (length (now out) ≤ 480) × (length (now out) ≡ 2 * (length (now out) / 2)) × (length (now t) ≡ 2 * length (now out))
+// A run of the fold's second half: the past forwards from place from, less t backwards from place to, each with its own part of the window.
+fn fold_past(
+    past: &[i16],
+    w: &[u32],
+    from: usize,
+    t: &[i16],
+    wt: &[u32],
+    to: usize,
+    out: &mut [f32],
+)
+    requires { ⌜ (from + length (now out) ≤ length (now past)) × (length (now past) ≤ length (now w)) × Numbers (now w)
+        × (length (now out) ≤ to) × (to ≤ length (now t)) × (length (now t) ≤ length (now wt)) × Numbers (now wt) ⌝ }
+    ensures { λ _. ⌜ now (out .exit) ≡ tab (length (now (out .entry))) (λ i.
+        sub binary32 (weighed (now (past .entry)) (now (w .entry)) (from + i)) (weighed (now (t .entry)) (now (wt .entry)) (to - 1 - i))) ⌝ }
+{
+    let mut i = 0;
+    while i < out.len() {
+        out[i] = weighed(past, w, from + i) - weighed(t, wt, to - 1 - i);
+        i += 1;
+    }
+}
+
+// The first half of the fold, from the frame x and the z zeros behind it. The window is given from the frame's first place on.
+fn fold_low(x: &[i16], w: &[u32], z: usize, out: &mut [f32])
+    requires { ⌜ (z ≤ length (now out)) × (length (now x) ≡ 2 * length (now out)) × (length (now w) ≡ length (now x) + z) × Numbers (now w) ⌝ }
+    ensures { λ _. ⌜ now (out .exit) ≡ tab (length (now (out .entry))) (λ i.
+        sub binary32 (neg (weighed (now (x .entry) ++ replicate z (pos 0)) (now (w .entry)) (length (now (out .entry)) + z - 1 - i)))
+        (weighed (now (x .entry) ++ replicate z (pos 0)) (now (w .entry)) (length (now (out .entry)) + z + i))) ⌝ }
+{
+    let h = out.len();
+    let a = h - z;
+    fold_frame(x, w, h + z, &mut out[..a]);
+    fold_zeros(x, w, 2 * z, &mut out[a..]);
+}
+
+// The second half of the fold, from the past and the first z samples of the frame x.
+fn fold_high(past: &[i16], x: &[i16], w: &[u32], z: usize, out: &mut [f32])
+    requires { ⌜ (z ≤ length (now out)) × (length (now past) + z ≡ 2 * length (now out)) × (z ≤ length (now x))
+        × (length (now past) + length (now x) ≤ length (now w)) × Numbers (now w) ⌝ }
+    ensures { λ _. ⌜ now (out .exit) ≡ tab (length (now (out .entry))) (foldHigh (length (now (out .entry))) (now (w .entry)) (now (past .entry) ++ now (x .entry))) ⌝ }
+{
+    let p = past.len();
+    fold_past(past, w, 0, x, &w[p..], z, &mut out[..z]);
+    fold_past(past, w, z, past, w, p, &mut out[z..]);
+}
+
+// Inner. The time buffer of 2 nf samples, which is the past, the frame and zeros, folded with the window w to nf values.
+// The buffer itself is not made: each place is read where it stands.
+pub fn fold(past: &[i16], input: &[i16], w: &[u32], out: &mut [f32])
+    requires { ⌜ (length (now out) ≤ 480) × (length (now out) ≡ 2 * (length (now out) / 2)) × (length (now input) ≡ length (now out))
+        × (length (now past) ≤ length (now out)) × (length (now out) - length (now past) ≤ length (now out) / 2)
         × (length (now w) ≡ 2 * length (now out)) × Numbers (now w) ⌝ }
-    ensures { λ _. ⌜ now (out .exit) ≡ folded (length (now (out .entry))) (now (w .entry)) (now (t .entry)) ⌝ }
+    ensures { λ _. ⌜ now (out .exit) ≡ folded (length (now (out .entry))) (now (w .entry)) (bufferStep (length (now (out .entry))) (length (now (out .entry)) - length (now (past .entry)))
+        (bufferOf (length (now (out .entry))) (length (now (out .entry)) - length (now (past .entry))) (now (past .entry))) (now (input .entry))) ⌝ }
 {
     let h = out.len() / 2;
-    fold_low(t, w, h, &mut out[..h]);
-    fold_high(t, w, h, &mut out[h..]);
+    let p = past.len();
+    let z = out.len() - p;
+    fold_low(input, &w[p..], z, &mut out[..h]);
+    fold_high(past, input, w, z, &mut out[h..]);
 }
 
 // Inner. Each value by the gain.

@@ -42,11 +42,15 @@ same false false f g = refl
 pub same-among : (ms ns : List ℕ) → T (every (λ k n. among ns n) 0 ms) → T (every (λ k n. among ms n) 0 ns) → (n : ℕ) → among ms n ≡ among ns n
 same-among ms ns t u n = same (among ms n) (among ns n) (at-among (among ns) ms t n) (at-among (among ms) ns u n)
 
--- what the last arm knows of a number that is one of a list's, where the arms before it are all the others
+-- what the last arm knows of a number that is one of a list's: it passes a test that every number of the list passes but those of the arms before it
+pub past-among : (f : ℕ → Bool) (ns ms : List ℕ) → T (every (λ k n. among ms n || f n) 0 ns) → (n : ℕ) → T (among ns n) → Outside ms n Unit → T (f n)
+past-among f ns ms t n a o =
+    let u : T (among ms n || f n) = at-among (λ n. among ms n || f n) ns t n a in
+    rw (outside-among ms n Unit o) at u
+
+-- as where the arms before it are all the others
 pub last-among : (ns ms : List ℕ) (last : ℕ) → T (every (λ k n. among ms n || eqb last n) 0 ns) → (n : ℕ) → T (among ns n) → Outside ms n Unit → n ≡ last
-last-among ns ms last t n a o =
-    let u : T (among ms n || eqb last n) = at-among (λ n. among ms n || eqb last n) ns t n a in
-    sym (eqb→eq last n (rw (outside-among ms n Unit o) at u))
+last-among ns ms last t n a o = sym (eqb→eq last n (past-among (eqb last) ns ms t n a o))
 
 -- a search that has come to place k finds the number there, or goes on
 pub among-here : (l : List ℕ) (k n : ℕ) → k < length l → getD l k 0 ≡ n → among (drop k l) n ≡ true

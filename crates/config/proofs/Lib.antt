@@ -1,3 +1,4 @@
 pub mod Sound
 pub mod Among
 pub mod Verdicts
+pub mod Small

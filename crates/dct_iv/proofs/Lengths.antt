@@ -1,16 +1,15 @@
 -- The lengths of the DCT by computed tests over the configurations, its tables, and its refusals: each return of `judge` is the definition's
 -- verdict. Assumes nothing.
-use mathlib.Core.Path.{_≡_, refl, sym, ap, _∙_}
-use mathlib.Core.Bool.{Bool, true, false, cond, _&&_, _||_}
+use mathlib.Core.Path.{_≡_, sym, ap, ap₂, subst, _∙_}
+use mathlib.Core.Bool.{Bool, true, false, _&&_, _||_}
 use mathlib.Core.List.{List, [], _∷_}
 use Prim.Native.Nat.{ℕ, _*_, _/_, _<_, _≤_}
 use native.Mathlib.Omega.{arith}
-use lib.Dec.{T, eqb, leb, eqb→eq, leb→le}
-use lib.Ieee.{Float, ofBits, binary32}
-use lib.Ieee.Fits.{and-l, and-r}
-use lib.ListN.{length, take, replicate}
-use lib.Seq.{length-take-le}
-use borrow.Author.Tests.{eq-eqb, ne-eqb, lt-ltb, le-ltb}
+use lib.Dec.{T, eqb, leb, ltb, eqb→eq, ltb→lt}
+use lib.Ieee.{Float}
+use lib.Ieee.Fits.{and-l}
+use lib.ListN.{length}
+use borrow.Author.Tests.{eq-eqb, ne-eqb, lt-ltb, le-ltb, lt-leb}
 use Rattle.laws.specs.Lists.{first}
 use Rattle.laws.specs.Passes.{passes6}
 use Rattle.laws.proofs.Table.{every}
@@ -19,12 +18,13 @@ use Rattle.complex.specs.declared.Complex.{Complex}
 use Rattle.complex.specs.Complex.{at}
 use Rattle.config.specs.Tables.{rows}
 use Rattle.config.specs.Config.{row, half, among, fftSizes, dctLengths}
-use Rattle.config.proofs.Among.{at-among, same-among, last-among}
+use Rattle.config.proofs.Among.{at-among, same-among, past-among}
 use Rattle.config.proofs.Verdicts.{passed}
 use Rattle.twiddles.specs.Tables.{sizes}
 use Rattle.twiddles.specs.Twiddles.{fftRe, fftImOf, twiddle, dctRe, dctIm, dctTwiddle, lengths}
+use Rattle.kf_work.specs.Work.{spectrum, reals, imaginaries}
 use Rattle.config.specs.declared.Verdict.{Verdict}
-use Rattle.dct_iv.specs.DctIv.{dctBy, dctIv, number, verdict, left, answer}
+use Rattle.dct_iv.specs.DctIv.{point, dctBy, dctIv, number, verdict, left, answer}
 
 ours : T (every (λ k n. among lengths n) 0 dctLengths)
 unfolding sizes dctLengths row rows
@@ -39,47 +39,65 @@ pub same-lengths : (n : ℕ) → among dctLengths n ≡ among lengths n
 same-lengths n = same-among dctLengths lengths ours theirs n
 
 abbrev fits : ℕ → Bool
-fits n = among fftSizes (n / 2) && (eqb n (2 * (n / 2)) && leb (n / 2) 240)
+fits n = among fftSizes (n / 2) && eqb n (2 * (n / 2))
 
 test : T (every (λ k n. fits n) 0 dctLengths)
 unfolding fftSizes dctLengths half row rows
 test = tt
 
--- half a length is an FFT size, and the work areas hold it
-pub halves : (n : ℕ) → T (among dctLengths n) → T (among fftSizes (n / 2)) × (n ≡ 2 * (n / 2))
-halves n s =
+-- half a length is an FFT size, which the arm of its length says
+pub at-arm : (n c : ℕ) → T (among dctLengths n) → n ≡ 2 * c → T (among fftSizes c) × (n ≡ 2 * c)
+at-arm n c s e =
     let t : T (fits n) = at-among fits dctLengths test n s in
-    let u = and-r (among fftSizes (n / 2)) _ t in
-    (and-l (among fftSizes (n / 2)) _ t, eqb→eq n (2 * (n / 2)) (and-l (eqb n (2 * (n / 2))) _ u))
+    let h : n / 2 ≡ c = omega arith in
+    (subst (λ (m : ℕ). T (among fftSizes m)) h (and-l (among fftSizes (n / 2)) _ t), e)
 
-small : T (every (λ k n. leb n 240) 0 fftSizes)
-unfolding fftSizes half row rows
-small = tt
+-- the last arms of the matches on the lengths: past the small ones, and past the large ones but the longest
+abbrev small : List ℕ
+small = 20 ∷ 40 ∷ 60 ∷ 80 ∷ []
 
-pub at-most : (n : ℕ) → T (among fftSizes n) → n ≤ 240
-at-most n s = leb→le n 240 (at-among (λ n. leb n 240) fftSizes small n s)
+abbrev large : List ℕ
+large = 120 ∷ 160 ∷ 180 ∷ 240 ∷ 320 ∷ 360 ∷ []
 
-pub area : (c : ℕ) (r : List Float) → r ≡ replicate 240 (ofBits binary32 0) → c ≤ 240 → (c ≤ length r) × (length (take c r) ≡ c)
-area c r e h =
-    let n : length r ≡ 240 = ap length e in
-    (omega arith, length-take-le c r (omega arith))
-
--- the last arm of a match on the lengths: none of the shorter ones
-abbrev shorter : List ℕ
-shorter = 20 ∷ 40 ∷ 60 ∷ 80 ∷ 120 ∷ 160 ∷ 180 ∷ 240 ∷ 320 ∷ 360 ∷ []
-
-ends : T (every (λ k n. among shorter n || eqb 480 n) 0 dctLengths)
+past-small : T (every (λ k n. among small n || ltb 80 n) 0 dctLengths)
 unfolding dctLengths row rows
-ends = tt
+past-small = tt
 
-pub last-length : (n : ℕ) → T (among dctLengths n) → Outside shorter n Unit → n ≡ 480
-last-length = last-among dctLengths shorter 480 ends
+past-large : T (every (λ k n. among large n || (leb n 80 || eqb 480 n)) 0 dctLengths)
+unfolding dctLengths row rows
+past-large = tt
+
+pub is-large : (n : ℕ) → T (among dctLengths n) → Outside small n Unit → 80 < n
+is-large n s o = ltb→lt 80 n (past-among (ltb 80) dctLengths small past-small n s o)
+
+pub is-longest : (n : ℕ) → T (among dctLengths n) → 80 < n → Outside large n Unit → n ≡ 480
+is-longest n s l o =
+    let t : T (leb n 80 || eqb 480 n) = past-among (λ n. leb n 80 || eqb 480 n) dctLengths large past-large n s o in
+    sym (eqb→eq 480 n (rw (lt-leb n 80 l) at t))
 
 -- with the tables of its length
-pub is-dct : (buf dr di tr ti out : List Float) (n : ℕ) → let c = length buf / 2 in
-    dr ≡ dctRe c → di ≡ dctIm c → tr ≡ fftRe c → ti ≡ fftImOf false c → n ≡ c → out ≡ dctBy (at dr di) (at tr ti) n buf → out ≡ dctIv buf
-unfolding dctIv dctTwiddle twiddle
-is-dct buf dr di tr ti out n e1 e2 e3 e4 e5 e = e ∙ (λ j. dctBy (at (e1 j) (e2 j)) (at (e3 j) (e4 j)) (e5 j) buf)
+module _ (buf : List Float) {dr di tr ti : List Float} {n c : ℕ} (e1 : dr ≡ dctRe c) (e2 : di ≡ dctIm c) (e3 : tr ≡ fftRe c) (e4 : ti ≡ fftImOf false c) (e5 : n ≡ c) where
+  d-is : at dr di ≡ dctTwiddle c
+  unfolding dctTwiddle
+  d-is = ap₂ at e1 e2
+
+  t-is : at tr ti ≡ twiddle c false
+  unfolding twiddle
+  t-is = ap₂ at e3 e4
+
+  pub is-dct : length buf ≡ 2 * c → {out : List Float} → out ≡ dctBy (at dr di) (at tr ti) n buf → out ≡ dctIv buf
+  unfolding dctIv
+  is-dct l e = let h : c ≡ length buf / 2 = omega arith in e ∙ (λ j. dctBy (d-is j) (t-is j) (e5 j) buf) ∙ ap (λ (m : ℕ). dctBy (dctTwiddle m) (twiddle m false) m buf) h
+
+  -- a part of the points, then of their transform, by the definition's twiddles
+  pub is-points : {x : List Float} (part : ℕ → (ℕ → Complex) → List Float) → x ≡ part n (point (at dr di) buf) → x ≡ part c (point (dctTwiddle c) buf)
+  is-points part e = e ∙ (λ j. part (e5 j) (point (d-is j) buf))
+
+  pub is-transformed : {x y a : List Float} (part : ℕ → (ℕ → Complex) → List Float) → x ≡ reals n (point (at dr di) buf) → y ≡ imaginaries n (point (at dr di) buf)
+      → a ≡ part n (spectrum (at tr ti) false n (at (reals n (point (at dr di) buf)) (imaginaries n (point (at dr di) buf)))) → a ≡ part c (spectrum (twiddle c false) false c (at x y))
+  is-transformed part ex ey e =
+      let ex′ = sym ex in
+      let ey′ = sym ey in e ∙ (λ j. part (e5 j) (spectrum (t-is j) false (e5 j) (at (ex′ j) (ey′ j))))
 
 module _ (n : ℕ) (buf : List Float) where
   abbrev says : ℕ → ℕ → Type 0

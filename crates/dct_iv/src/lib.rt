@@ -3,53 +3,33 @@
 // refusals stand in place of panics.
 ghost use mathlib.Core.Path.{_≡_};
 ghost use mathlib.Core.Bool.{false};
-ghost use Prim.Native.Nat.{_*_, _/_, _≤_};
+ghost use Prim.Native.Nat.{_*_, _<_};
 ghost use lib.Dec.{T};
-ghost use lib.ListN.{length, replicate};
-ghost use lib.Ieee.{binary32, ofBits};
+ghost use lib.ListN.{length};
 ghost use Rattle.laws.specs.Lists.{tab};
 ghost use Rattle.complex.specs.Complex.{at, times};
 ghost use Rattle.config.specs.Config.{among, fftSizes, dctLengths};
-ghost use Rattle.twiddles.specs.Twiddles.{fftTable, dctTable};
-ghost use Rattle.kf_work.specs.Work.{within, spectrum, reals, imaginaries};
+ghost use Rattle.twiddles.specs.Twiddles.{fftTable, twiddle, dctTable, dctTwiddle};
+ghost use Rattle.kf_work.specs.Work.{spectrum, reals, imaginaries};
 ghost use Rattle.dct_iv.specs.DctIv.{point, placed, dctBy, dctIv, verdict, left, answer};
 use complex::Complex;
 use complex::get;
 use complex::put;
 use config::Verdict;
 use kf_work::transform;
-use twiddles::dct_10;
-use twiddles::dct_20;
-use twiddles::dct_30;
-use twiddles::dct_40;
-use twiddles::dct_60;
-use twiddles::dct_80;
-use twiddles::dct_90;
-use twiddles::dct_120;
-use twiddles::dct_160;
-use twiddles::dct_180;
-use twiddles::dct_240;
-use twiddles::fft_10;
-use twiddles::fft_20;
-use twiddles::fft_30;
-use twiddles::fft_40;
-use twiddles::fft_60;
-use twiddles::fft_80;
-use twiddles::fft_90;
-use twiddles::fft_120;
-use twiddles::fft_160;
-use twiddles::fft_180;
-use twiddles::fft_240;
 
-// The points: twiddle n times the value at 2n and the value as far from the end.
+mod arms; // arms.rt: each length with its tables and work areas
+
+// The points: twiddle n times the value at 2n and the value as far from the end, whose place is counted down: worked out from n it costs more.
 fn turn_in(buf: &[f32], dr: &[f32], di: &[f32], xr: &mut [f32], xi: &mut [f32])
     requires { ⌜ (length (now buf) ≡ 2 * length (now xr)) × (length (now dr) ≡ length (now xr)) × (length (now di) ≡ length (now xr)) × (length (now xi) ≡ length (now xr)) ⌝ }
     ensures { λ _. ⌜ (now (xr .exit) ≡ reals (length (now (xr .entry))) (point (at (now (dr .entry)) (now (di .entry))) (now (buf .entry)))) × (now (xi .exit) ≡ imaginaries (length (now (xr .entry))) (point (at (now (dr .entry)) (now (di .entry))) (now (buf .entry)))) ⌝ }
 {
-    let nf = buf.len();
+    let mut back = buf.len();
     for n in 0..xr.len() {
+        back -= 2;
         let w = get(dr, di, n);
-        let v = Complex::new(buf[2 * n], buf[nf - 2 * n - 1]);
+        let v = Complex::new(buf[2 * n], buf[back + 1]);
         put(xr, xi, n, w.mul(v));
     }
 }
@@ -88,33 +68,39 @@ fn steps(
     turn_out(ar, ai, dr, di, buf);
 }
 
-fn zeros() -> [f32; 240]
-    ensures { λ r. ⌜ r ≡ replicate 240 (ofBits binary32 0) ⌝ }
+// The DCT of 2 c values with the tables of c points, in work areas of c places.
+fn by(
+    buf: &mut [f32],
+    c: usize,
+    d: &[f32],
+    t: &[f32],
+    xr: &mut [f32],
+    xi: &mut [f32],
+    ar: &mut [f32],
+    ai: &mut [f32],
+)
+    requires { ⌜ T (among fftSizes c) × (length (now buf) ≡ 2 * c) × (now d ≡ dctTable c) × (now t ≡ fftTable c) × (length (now xr) ≡ c) × (length (now xi) ≡ c) × (length (now ar) ≡ c) × (length (now ai) ≡ c) ⌝ }
+    ensures lines { λ _. ⌜ now (buf .exit) ≡ dctIv (now (buf .entry)) ⌝ }
+    ensures points { λ _. ⌜ (now (xr .exit) ≡ reals c (point (dctTwiddle c) (now (buf .entry)))) × (now (xi .exit) ≡ imaginaries c (point (dctTwiddle c) (now (buf .entry)))) ⌝ }
+    ensures transformed { λ _. ⌜ (now (ar .exit) ≡ reals c (spectrum (twiddle c false) false c (at (now (xr .exit)) (now (xi .exit))))) × (now (ai .exit) ≡ imaginaries c (spectrum (twiddle c false) false c (at (now (xr .exit)) (now (xi .exit))))) ⌝ }
 {
-    [0.0; 240]
+    steps(buf, &d[..c], &d[c..], &t[..c], &t[c..], xr, xi, ar, ai);
 }
 
-// The DCT with the tables of its length, in work areas of its own.
-fn by(buf: &mut [f32], d: &[f32], t: &[f32])
-    requires { ⌜ T (among fftSizes (length (now buf) / 2)) × (length (now buf) ≡ 2 * (length (now buf) / 2)) × (now d ≡ dctTable (length (now buf) / 2)) × (now t ≡ fftTable (length (now buf) / 2)) ⌝ }
+// The DCT-IV of more than 80 values. It stands apart so that a small one does not take the stack of the longest.
+fn run_large(buf: &mut [f32])
+    requires { ⌜ T (among dctLengths (length (now buf))) × (80 < length (now buf)) ⌝ }
     ensures { λ _. ⌜ now (buf .exit) ≡ dctIv (now (buf .entry)) ⌝ }
 {
-    let c = buf.len() / 2;
-    let mut xr = zeros();
-    let mut xi = zeros();
-    let mut ar = zeros();
-    let mut ai = zeros();
-    steps(
-        buf,
-        &d[..c],
-        &d[c..],
-        &t[..c],
-        &t[c..],
-        &mut xr[..c],
-        &mut xi[..c],
-        &mut ar[..c],
-        &mut ai[..c],
-    );
+    match buf.len() {
+        120 => arms::by_60(buf),
+        160 => arms::by_80(buf),
+        180 => arms::by_90(buf),
+        240 => arms::by_120(buf),
+        320 => arms::by_160(buf),
+        360 => arms::by_180(buf),
+        _ => arms::by_240(buf),
+    }
 }
 
 // Inner. The DCT-IV of buf, in place.
@@ -123,17 +109,11 @@ pub fn run(buf: &mut [f32])
     ensures { λ _. ⌜ now (buf .exit) ≡ dctIv (now (buf .entry)) ⌝ }
 {
     match buf.len() {
-        20 => by(buf, &dct_10(), &fft_10()),
-        40 => by(buf, &dct_20(), &fft_20()),
-        60 => by(buf, &dct_30(), &fft_30()),
-        80 => by(buf, &dct_40(), &fft_40()),
-        120 => by(buf, &dct_60(), &fft_60()),
-        160 => by(buf, &dct_80(), &fft_80()),
-        180 => by(buf, &dct_90(), &fft_90()),
-        240 => by(buf, &dct_120(), &fft_120()),
-        320 => by(buf, &dct_160(), &fft_160()),
-        360 => by(buf, &dct_180(), &fft_180()),
-        _ => by(buf, &dct_240(), &fft_240()),
+        20 => arms::by_10(buf),
+        40 => arms::by_20(buf),
+        60 => arms::by_30(buf),
+        80 => arms::by_40(buf),
+        _ => run_large(buf),
     }
 }
 

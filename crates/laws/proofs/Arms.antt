@@ -30,7 +30,3 @@ besides-from (suc n) a c A l o =
 
 pub past-from : (n a c : ℕ) → a ≤ c → Outside (from n a) c Unit → a + n ≤ c
 past-from n a c l o = besides-from n a c Unit l o
-
--- of numbers from a to a + n the last arm has the last
-pub last-from : (n a c : ℕ) → a ≤ c → c ≤ a + n → Outside (from n a) c Unit → c ≡ a + n
-last-from n a c l m o = let h = past-from n a c l o in omega arith

@@ -1,5 +1,5 @@
-// A synthesis frame with its tables at hand: lines and memory to samples and memory.
-// Ported from src/decoder/modified_dct.rs of lc3-codec 0.2.0, and changed: the tables and the work area are the caller's.
+// A synthesis frame in two steps, so that the DCT's tables and the window are not on the stack at once: the DCT of its lines, then its samples and memory.
+// Ported from src/decoder/modified_dct.rs of lc3-codec 0.2.0, and changed: the window and the work area are the caller's.
 ghost use mathlib.Core.Path.{_≡_};
 ghost use Prim.Native.Nat.{_-_, _*_, _≤_};
 ghost use lib.Dec.{T};
@@ -7,38 +7,32 @@ ghost use lib.ListN.{length};
 ghost use Rattle.config.specs.Config.{among, dctLengths};
 ghost use Rattle.windows.specs.Windows.{Numbers};
 ghost use Rattle.dct_iv.specs.DctIv.{dctIv};
-ghost use Rattle.synthesis_steps.specs.Places.{unfolded, scaled, output, remains};
-ghost use Rattle.synthesis_frame.specs.Frame.{places};
+ghost use Rattle.synthesis_steps.specs.Places.{padded, unfolded, scaled, windowed, output, remains};
 
-// The DCT of the values, unfolded, times the gain. buf is left with the DCT.
-fn apply_mdct_inverse(buf: &mut [f32], t: &mut [f32], g: f32, h: usize)
-    requires { ⌜ (h ≤ 240) × (length (now buf) ≡ 2 * h) × (length (now t) ≡ 4 * h) × T (among dctLengths (2 * h)) ⌝ }
-    ensures values { λ _. ⌜ now (buf .exit) ≡ dctIv (now (buf .entry)) ⌝ }
-    ensures places { λ _. ⌜ now (t .exit) ≡ scaled g (unfolded h (dctIv (now (buf .entry)))) ⌝ }
-{
-    dct_iv::run(buf);
-    synthesis_steps::unfold(buf, t, h);
-    synthesis_steps::gain(t, g);
-}
-
-// Inner. One frame: lines and memory to samples and memory. The memory is nf - z places, t a work area of 2 nf; the samples' slice is worked in, as in the Rust.
-pub fn run(
-    lines: &[f32],
-    w: &[u32],
-    g: f32,
-    z: usize,
-    t: &mut [f32],
-    memory: &mut [f32],
-    samples: &mut [f32],
-    h: usize,
-)
-    requires { ⌜ (h ≤ 240) × (z ≤ 2 * h) × (length (now lines) ≤ 2 * h) × (length (now w) ≡ 4 * h) × Numbers (now w) × (length (now t) ≡ 4 * h) × (length (now memory) ≡ 2 * h - z) × (length (now samples) ≡ 2 * h) × T (among dctLengths (2 * h)) ⌝ }
-    ensures places { λ _. ⌜ now (t .exit) ≡ places h g (now (w .entry)) (now (lines .entry)) ⌝ }
-    ensures memory { λ _. ⌜ now (memory .exit) ≡ remains (2 * h) z (places h g (now (w .entry)) (now (lines .entry))) ⌝ }
-    ensures samples { λ _. ⌜ now (samples .exit) ≡ output (2 * h) z (now (memory .entry)) (places h g (now (w .entry)) (now (lines .entry))) ⌝ }
+// Inner. The DCT of the lines, which zeros follow, times the gain; the samples' slice is worked in, as in the Rust.
+pub fn apply_dct(lines: &[f32], g: f32, samples: &mut [f32])
+    requires { ⌜ (length (now lines) ≤ length (now samples)) × T (among dctLengths (length (now samples))) ⌝ }
+    ensures { λ _. ⌜ now (samples .exit) ≡ scaled g (dctIv (padded (length (now (samples .entry))) (now (lines .entry)))) ⌝ }
 {
     synthesis_steps::pad(lines, samples);
-    apply_mdct_inverse(samples, t, g, h);
-    synthesis_steps::window(t, w);
-    synthesis_steps::overlap_add(t, memory, samples, z);
+    dct_iv::run(samples);
+    synthesis_steps::gain(samples, g);
+}
+
+// Inner. These values, which stand in the samples' slice, to samples and memory. They are moved to v, a work area of nf places.
+pub fn overlap_add(
+    v: &mut [f32],
+    w: &[u32],
+    memory: &mut [f32],
+    samples: &mut [f32],
+    z: usize,
+    h: usize,
+)
+    requires { ⌜ (h ≤ 240) × (z ≤ h) × (length (now v) ≡ 2 * h) × (length (now w) ≡ 4 * h) × Numbers (now w) × (length (now memory) ≡ 2 * h - z) × (length (now samples) ≡ 2 * h) ⌝ }
+    ensures values { λ _. ⌜ now (v .exit) ≡ now (samples .entry) ⌝ }
+    ensures memory { λ _. ⌜ now (memory .exit) ≡ remains (2 * h) z (windowed (now (w .entry)) (unfolded h (now (samples .entry)))) ⌝ }
+    ensures samples { λ _. ⌜ now (samples .exit) ≡ output (2 * h) z (now (memory .entry)) (windowed (now (w .entry)) (unfolded h (now (samples .entry)))) ⌝ }
+{
+    synthesis_steps::copy(samples, v);
+    synthesis_steps::overlap_add(v, w, memory, samples, z, h);
 }

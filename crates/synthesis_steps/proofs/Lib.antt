@@ -1,5 +1,5 @@
 pub mod Lists
 pub mod Places
 pub mod Mirrors
-pub mod Moves
+pub mod Unfold
 pub mod Lengths

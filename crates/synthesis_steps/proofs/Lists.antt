@@ -1,5 +1,5 @@
 -- Lists by their places: read backwards, two together, negated, in two parts; and what a loop that writes every place leaves. Assumes nothing.
-use mathlib.Core.Path.{_≡_, refl, sym, ap, _∙_}
+use mathlib.Core.Path.{_≡_, refl, sym, ap, ap₂, _∙_}
 use mathlib.Core.Bool.{Bool, true, false}
 use mathlib.Core.Logic.{⊎-elim, inl, inr, _⊎_}
 use mathlib.Core.List.{List, [], _∷_, _++_, map, reverse, reverse-cons, zipWith}
@@ -7,13 +7,12 @@ use Prim.Native.Nat.{ℕ, zero, suc, _+_, _-_, _≤_, _<_}
 use native.Mathlib.Nat.{not-suc-le-zero, le-of-suc-le-suc}
 use native.Mathlib.Omega.{arith}
 use lib.Dec.{ltb}
-use lib.ListN.{length, getD, drop, length-reverse, List·getD-append, List·getD-map}
-use lib.Seq.{getD-append-add, getD-drop, take-at, drop-at}
+use lib.ListN.{length, getD, take, drop, length-drop, length-reverse, List·getD-append, List·getD-map}
+use lib.Seq.{getD-append-add, getD-take, getD-drop, length-take-le, take-at, drop-at, take-add, drop-drop}
 use lib.Ieee.{Float, nan, neg}
 use borrow.Rule.Slice.PartMut.{midOf, putMid}
 use borrow.Author.Tests.{ltb-true, ltb-false}
-use Rattle.laws.specs.Lists.{tab}
-use Rattle.laws.proofs.Lists.{length-tab, is-tab, Filled, filled-all}
+use Rattle.laws.proofs.Lists.{is-tab, Filled, filled-all}
 use Rattle.laws.proofs.Parts.{mid-tail, put-tail}
 use Rattle.laws.proofs.Sign.{neg-nan}
 
@@ -73,11 +72,11 @@ getD-negs l k = ap (λ (d : Float). getD (map neg l) k d) (sym neg-nan) ∙ List
 pub filled-is : {A : Type 0} {f : ℕ → A} {l : List A} {i : ℕ} {out : List A} (d : A) (r : List A) → Filled f l i out → i ≡ length l → length r ≡ length l → ((k : ℕ) → k < length l → getD r k d ≡ f k) → out ≡ r
 filled-is {A} {f} {l} {i} {out} d r h e s p = filled-all h e ∙ sym (is-tab d r (length l) f s p)
 
--- a place that the loop has not come to yet
-pub filled-later : {A : Type 0} {f : ℕ → A} {l : List A} {i : ℕ} {out : List A} (d : A) → Filled f l i out → (k : ℕ) → i ≤ k → getD out k d ≡ getD l k d
-filled-later {A} {f} {l} {i} {out} d h k b =
-    let e : i + (k - length (tab i f)) ≡ k = omega (arith, length-tab i f) in
-    ap (λ (m : List A). getD m k d) (h .holds) ∙ getD-second (tab i f) (drop i l) k d (omega (arith, length-tab i f)) ∙ getD-drop i l _ d ∙ ap (λ (j : ℕ). getD l j d) e
+-- a loop that wrote the places of t from `from` on
+pub filled-part : {A : Type 0} {l : List A} {i : ℕ} {out : List A} (d : A) (from : ℕ) (t : List A) → Filled (λ k. getD t (from + k) d) l i out → i ≡ length l → from + length l ≤ length t → out ≡ take (length l) (drop from t)
+filled-part {A} {l} d from t h e b =
+    filled-is d (take (length l) (drop from t)) h e (length-take-le (length l) (drop from t) (omega (arith, length-drop from t)))
+    (λ k p. getD-take (length l) (drop from t) k d p ∙ getD-drop from t k d)
 
 -- the first n places came back as x; the others are then lent as they were, and come back as y
 module _ {A : Type 0} (n : ℕ) (l : List A) {p x : List A} (i : p ≡ x) (e : length x ≡ n) where
@@ -86,3 +85,14 @@ module _ {A : Type 0} (n : ℕ) (l : List A) {p x : List A} (i : p ≡ x) (e : l
 
   pub two-parts : {q y : List A} → q ≡ y → putMid n (length (p ++ drop n l) - n) (p ++ drop n l) q ≡ x ++ y
   two-parts {q} {y} j = put-tail n (p ++ drop n l) q ∙ ap (λ (r : List A). r ++ q) (take-at p (drop n l) n (ap length i ∙ e) ∙ i) ∙ ap (λ (r : List A). x ++ r) j
+
+-- both parts of l are places of t, those of the second behind those of the first
+pub two-places : {A : Type 0} (n : ℕ) (l : List A) (from to : ℕ) (t : List A) {p q : List A} → n ≤ length l → from + length l ≤ length t → from + n ≡ to → p ≡ take (length (take n l)) (drop from t) → q ≡ take (length (midOf n (length (p ++ drop n l) - n) (p ++ drop n l))) (drop to t)
+    → putMid n (length (p ++ drop n l) - n) (p ++ drop n l) q ≡ take (length l) (drop from t)
+two-places {A} n l from to t b s f i j =
+    let e = length-take-le n (drop from t) (omega (arith, length-drop from t)) in
+    let k : take (length (take n l)) (drop from t) ≡ take n (drop from t) = ap (λ (m : ℕ). take m (drop from t)) (length-take-le n l b) in
+    let g : n + length (drop n l) ≡ length l = omega (arith, length-drop n l) in
+    two-parts n l (i ∙ k) e (j ∙ ap₂ (λ (r m : List A). take (length r) m) (second-lent n l (i ∙ k) e) (ap (λ (m : ℕ). drop m t) (sym f) ∙ sym (drop-drop n from t)))
+    ∙ sym (take-add n (length (drop n l)) (drop from t))
+    ∙ ap (λ (m : ℕ). take m (drop from t)) g

@@ -1,21 +1,22 @@
--- The unfolded frame, place by place; and that its halves mirror before the window, bit for bit: `halves`. Assumes nothing.
+-- The unfolded frame, place by place; and that its halves mirror before the window, bit for bit: `halves`; and that the gain may
+-- come before the unfolding: `unfolded-scaled`. Assumes nothing.
 use mathlib.Core.Path.{_≡_, refl, sym, ap, _∙_}
 use mathlib.Core.Logic.{⊎-elim}
 use mathlib.Core.List.{List, map, reverse}
 use Prim.Native.Nat.{ℕ, _+_, _-_, _*_, _≤_, _<_}
 use native.Mathlib.Omega.{arith}
 use lib.ListN.{length, getD, take, drop, length-append, length-drop, length-reverse, length-map, List·getD-append}
-use lib.Seq.{getD-drop, getD-take, length-take-le}
+use lib.Seq.{getD-drop, getD-take, length-take-le, ext-getD}
 use lib.Ieee.{Float, nan, binary32, neg, mul}
 use Rattle.laws.proofs.Sign.{neg-neg, mul-neg}
 use Rattle.synthesis_steps.specs.Places.{mirrored, unfolded, scaled, Mirrors}
 use Rattle.synthesis_steps.specs.Halves.{Halves}
 use Rattle.synthesis_steps.proofs.Lists.{lt-or-ge, getD-second, getD-reverse, getD-negs}
-use Rattle.synthesis_steps.proofs.Places.{getD-scaled}
+use Rattle.synthesis_steps.proofs.Places.{getD-scaled, length-scaled}
 
 -- h is nf / 2, b the values
 module _ (h : ℕ) (b : List Float) (e : length b ≡ 2 * h) where
-  pub length-mirrored : length (mirrored b) ≡ 4 * h
+  length-mirrored : length (mirrored b) ≡ 4 * h
   unfolding mirrored
   length-mirrored = omega (arith, length-append b (map neg (reverse b)), length-map (reverse b) neg, length-reverse b)
 
@@ -46,8 +47,8 @@ module _ (h : ℕ) (b : List Float) (e : length b ≡ 2 * h) where
       List·getD-append (drop h (mirrored b)) (map neg (take h (mirrored b))) nan k (omega (arith, length-left)) ∙ getD-drop h (mirrored b) k nan
 
   -- a place of the first quarter, of the middle half, of the last quarter
-  pub place-first : (k : ℕ) → k < h → getD (unfolded h b) k nan ≡ getD b (h + k) nan
-  place-first k p = moved k (omega arith) ∙ mirrored-low (h + k) (omega arith)
+  pub place-first : (k j : ℕ) → k < h → j ≡ h + k → getD (unfolded h b) k nan ≡ getD b j nan
+  place-first k j p e = moved k (omega arith) ∙ ap (λ (i : ℕ). getD (mirrored b) i nan) (sym e) ∙ mirrored-low j (omega arith)
 
   pub place-middle : (k j : ℕ) → h ≤ k → k < 3 * h → j ≡ 3 * h - 1 - k → getD (unfolded h b) k nan ≡ neg (getD b j nan)
   place-middle k j p q e =
@@ -66,10 +67,8 @@ module _ (h : ℕ) (b : List Float) (e : length b ≡ 2 * h) where
   -- before the gain: the first half is antisymmetric, the second symmetric
   front : (k : ℕ) → k < 2 * h → getD (unfolded h b) k nan ≡ neg (getD (unfolded h b) (2 * h - 1 - k) nan)
   front k p = ⊎-elim
-      (λ q. place-first k q ∙ sym (ap neg (place-middle (2 * h - 1 - k) (h + k) (omega arith) (omega arith) (omega arith)) ∙ neg-neg (getD b (h + k) nan)))
-      (λ q.
-      let f : h + (2 * h - 1 - k) ≡ 3 * h - 1 - k = omega arith in
-      place-middle k (3 * h - 1 - k) q (omega arith) refl ∙ ap (λ (j : ℕ). neg (getD b j nan)) (sym f) ∙ sym (ap neg (place-first (2 * h - 1 - k) (omega arith))))
+      (λ q. place-first k (h + k) q refl ∙ sym (ap neg (place-middle (2 * h - 1 - k) (h + k) (omega arith) (omega arith) (omega arith)) ∙ neg-neg (getD b (h + k) nan)))
+      (λ q. place-middle k (3 * h - 1 - k) q (omega arith) refl ∙ sym (ap neg (place-first (2 * h - 1 - k) (3 * h - 1 - k) (omega arith) (omega arith))))
       (lt-or-ge k h)
 
   back : (k : ℕ) → k < 2 * h → getD (unfolded h b) (2 * h + k) nan ≡ getD (unfolded h b) (4 * h - 1 - k) nan
@@ -88,6 +87,27 @@ module _ (h : ℕ) (b : List Float) (e : length b ≡ 2 * h) where
     where
       at : (k : ℕ) → getD (scaled g (unfolded h b)) k nan ≡ mul binary32 (getD (unfolded h b) k nan) g
       at k = getD-scaled g (unfolded h b) k
+
+-- the gain applied to the values is the gain applied to the places: rounding is symmetric in the sign
+pub unfolded-scaled : (h : ℕ) (g : Float) (b : List Float) → length b ≡ 2 * h → unfolded h (scaled g b) ≡ scaled g (unfolded h b)
+unfolded-scaled h g b e =
+    ext-getD nan (unfolded h (scaled g b)) (scaled g (unfolded h b)) (length-unfolded h (scaled g b) d ∙ sym (length-scaled g (unfolded h b) ∙ length-unfolded h b e))
+    (λ k p. ⊎-elim
+    (λ q. same k (place-first h (scaled g b) d k (h + k) q refl ∙ getD-scaled g b (h + k)) (place-first h b e k (h + k) q refl))
+    (λ q. ⊎-elim
+    (λ r. same k (place-middle h (scaled g b) d k (3 * h - 1 - k) q r refl ∙ turned (3 * h - 1 - k)) (place-middle h b e k (3 * h - 1 - k) q r refl))
+    (λ r. same k (place-last h (scaled g b) d k (k - 3 * h) (omega (arith, length-unfolded h (scaled g b) d)) (omega arith) ∙ turned (k - 3 * h)) (place-last h b e k (k - 3 * h) (omega (arith, length-unfolded h (scaled g b) d)) (omega arith)))
+    (lt-or-ge k (3 * h)))
+    (lt-or-ge k h))
+  where
+    d : length (scaled g b) ≡ 2 * h
+    d = length-scaled g b ∙ e
+
+    same : (k : ℕ) {x : Float} → getD (unfolded h (scaled g b)) k nan ≡ mul binary32 x g → getD (unfolded h b) k nan ≡ x → getD (unfolded h (scaled g b)) k nan ≡ getD (scaled g (unfolded h b)) k nan
+    same k s t = s ∙ sym (getD-scaled g (unfolded h b) k ∙ ap (λ (y : Float). mul binary32 y g) t)
+
+    turned : (j : ℕ) → neg (getD (scaled g b) j nan) ≡ mul binary32 (neg (getD b j nan)) g
+    turned j = ap neg (getD-scaled g b j) ∙ sym (mul-neg binary32 (getD b j nan) g)
 
 pub halves : Halves
 halves = record { unfold-mirrors = unfold-mirrors }

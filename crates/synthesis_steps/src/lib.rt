@@ -1,16 +1,17 @@
 // The steps of a synthesis frame, but for the DCT, one loop each. They know no configuration; h is nf / 2 throughout.
-// Ported from src/decoder/modified_dct.rs of lc3-codec 0.2.0, and changed: counted loops over lent slices, and parts of a slice lent one after the other.
+// Ported from src/decoder/modified_dct.rs of lc3-codec 0.2.0, and changed: counted loops over lent slices, parts of a slice lent one after the other,
+// each unfolded place computed where it is wanted, where the Rust moves a half aside and makes all 2 nf places, and the gain applied to the values before that.
 ghost use mathlib.Core.Path.{_≡_};
-ghost use mathlib.Core.List.{_++_, map, reverse, zipWith};
-ghost use Prim.Native.Nat.{_+_, _-_, _*_, _≤_, _<_};
+ghost use mathlib.Core.List.{_++_, zipWith};
+ghost use Prim.Native.Nat.{_+_, _-_, _*_, _≤_};
 ghost use lib.ListN.{length, take, drop, replicate};
-ghost use lib.Ieee.{binary32, neg, add};
+ghost use lib.Ieee.{binary32, add};
 ghost use Rattle.laws.specs.Numbers.{zero32};
-ghost use Rattle.synthesis_steps.specs.Places.{padded, mirrored, unfolded, scaled, windowed, output, remains};
+ghost use Rattle.synthesis_steps.specs.Places.{padded, unfolded, scaled, windowed, output, remains};
 ghost use Rattle.windows.specs.Windows.{Numbers};
 
-// copy_from_slice: all of `to` from `from`.
-fn copy(from: &[f32], to: &mut [f32])
+// Inner. copy_from_slice: all of `to` from `from`.
+pub fn copy(from: &[f32], to: &mut [f32])
     requires { ⌜ length (now from) ≡ length (now to) ⌝ }
     ensures { λ _. ⌜ now (to .exit) ≡ now (from .entry) ⌝ }
 {
@@ -32,43 +33,6 @@ pub fn zeros(to: &mut [f32])
     }
 }
 
-// The values of `from`, negated.
-fn negate(from: &[f32], to: &mut [f32])
-    requires { ⌜ length (now from) ≡ length (now to) ⌝ }
-    ensures { λ _. ⌜ now (to .exit) ≡ map neg (now (from .entry)) ⌝ }
-{
-    let mut i = 0;
-    while i < to.len() {
-        to[i] = -from[i];
-        i += 1;
-    }
-}
-
-// The values of `from`, backwards and negated.
-fn negate_backwards(from: &[f32], to: &mut [f32])
-    requires { ⌜ length (now from) ≡ length (now to) ⌝ }
-    ensures { λ _. ⌜ now (to .exit) ≡ map neg (reverse (now (from .entry))) ⌝ }
-{
-    let n = to.len();
-    let mut i = 0;
-    while i < n {
-        to[i] = -from[n - 1 - i];
-        i += 1;
-    }
-}
-
-// The first h places take what stands h places to the right.
-fn move_left(t: &mut [f32], h: usize)
-    requires { ⌜ 2 * h ≤ length (now t) ⌝ }
-    ensures { λ _. ⌜ now (t .exit) ≡ take h (drop h (now (t .entry))) ++ drop h (now (t .entry)) ⌝ }
-{
-    let mut i = 0;
-    while i < h {
-        t[i] = t[h + i];
-        i += 1;
-    }
-}
-
 // Inner. Every place times the gain.
 pub fn gain(t: &mut [f32], g: f32)
     ensures { λ _. ⌜ now (t .exit) ≡ scaled g (now (t .entry)) ⌝ }
@@ -76,31 +40,6 @@ pub fn gain(t: &mut [f32], g: f32)
     let mut i = 0;
     while i < t.len() {
         t[i] = t[i] * g;
-        i += 1;
-    }
-}
-
-// Inner. Every place times the window, which is read backwards.
-pub fn window(t: &mut [f32], w: &[u32])
-    requires { ⌜ (length (now w) ≡ length (now t)) × Numbers (now w) ⌝ }
-    ensures { λ _. ⌜ now (t .exit) ≡ windowed (now (w .entry)) (now (t .entry)) ⌝ }
-{
-    let n = t.len();
-    let mut i = 0;
-    while i < n {
-        t[i] = t[i] * f32::from_bits(w[n - 1 - i]);
-        i += 1;
-    }
-}
-
-// The sum of two lists, place by place.
-fn sum(a: &[f32], b: &[f32], to: &mut [f32])
-    requires { ⌜ (length (now a) ≡ length (now to)) × (length (now b) ≡ length (now to)) ⌝ }
-    ensures { λ _. ⌜ now (to .exit) ≡ zipWith (add binary32) (now (a .entry)) (now (b .entry)) ⌝ }
-{
-    let mut i = 0;
-    while i < to.len() {
-        to[i] = a[i] + b[i];
         i += 1;
     }
 }
@@ -115,57 +54,77 @@ pub fn pad(lines: &[f32], buf: &mut [f32])
     zeros(&mut buf[ne..]);
 }
 
-// The values, and after them the values backwards and negated.
-fn mirror(buf: &[f32], t: &mut [f32])
-    requires { ⌜ length (now t) ≡ 2 * length (now buf) ⌝ }
-    ensures { λ _. ⌜ now (t .exit) ≡ mirrored (now (buf .entry)) ⌝ }
+// The nf values v unfold to 2 nf places, each times the window, which is read backwards. Of these the ones from `from` on, as many as `out` has, within the
+// first quarter: the second half of the values.
+fn first_quarter(v: &[f32], w: &[u32], h: usize, from: usize, out: &mut [f32])
+    requires { ⌜ (h ≤ 240) × (length (now v) ≡ 2 * h) × (length (now w) ≡ 4 * h) × Numbers (now w) × (from + length (now out) ≤ h) ⌝ }
+    ensures { λ _. ⌜ now (out .exit) ≡ take (length (now (out .entry))) (drop from (windowed (now (w .entry)) (unfolded h (now (v .entry))))) ⌝ }
 {
-    let nf = buf.len();
-    copy(buf, &mut t[..nf]);
-    negate_backwards(buf, &mut t[nf..]);
+    let v_start = h + from;
+    let w_end = 4 * h - from;
+    let mut i = 0;
+    while i < out.len() {
+        out[i] = v[v_start + i] * f32::from_bits(w[w_end - 1 - i]);
+        i += 1;
+    }
 }
 
-// Three moves of h places to the left: the last h places stay as they are.
-fn move_three(t: &mut [f32], h: usize)
-    requires { ⌜ length (now t) ≡ 4 * h ⌝ }
-    ensures { λ _. ⌜ now (t .exit) ≡ drop h (now (t .entry)) ++ drop (3 * h) (now (t .entry)) ⌝ }
+// The same within the middle half: the values backwards and negated.
+fn middle_half(v: &[f32], w: &[u32], h: usize, from: usize, out: &mut [f32])
+    requires { ⌜ (h ≤ 240) × (length (now v) ≡ 2 * h) × (length (now w) ≡ 4 * h) × Numbers (now w) × (h ≤ from) × (from + length (now out) ≤ 3 * h) ⌝ }
+    ensures { λ _. ⌜ now (out .exit) ≡ take (length (now (out .entry))) (drop from (windowed (now (w .entry)) (unfolded h (now (v .entry))))) ⌝ }
 {
-    let nf = 2 * h;
-    move_left(t, h);
-    move_left(&mut t[h..], h);
-    move_left(&mut t[nf..], h);
+    let v_end = 3 * h - from;
+    let w_end = 4 * h - from;
+    let mut i = 0;
+    while i < out.len() {
+        out[i] = -v[v_end - 1 - i] * f32::from_bits(w[w_end - 1 - i]);
+        i += 1;
+    }
 }
 
-// half_nf_scratch: room for the half that is moved aside, of the greatest nf.
-fn half_nf_scratch() -> [f32; 240]
-    ensures { λ r. ⌜ r ≡ replicate 240 zero32 ⌝ }
+// The last quarter, all of it: the first half of the values, negated.
+fn last_quarter(v: &[f32], w: &[u32], h: usize, out: &mut [f32])
+    requires { ⌜ (h ≤ 240) × (length (now v) ≡ 2 * h) × (length (now w) ≡ 4 * h) × Numbers (now w) × (length (now out) ≡ h) ⌝ }
+    ensures { λ _. ⌜ now (out .exit) ≡ take (length (now (out .entry))) (drop (3 * h) (windowed (now (w .entry)) (unfolded h (now (v .entry))))) ⌝ }
 {
-    [0.0f32; 240]
+    let mut i = 0;
+    while i < out.len() {
+        out[i] = -v[i] * f32::from_bits(w[h - 1 - i]);
+        i += 1;
+    }
 }
 
-// Inner. The values unfolded to twice as many: mirrored, the first half moved aside, the rest moved to the left, what was aside negated behind it.
-pub fn unfold(buf: &[f32], t: &mut [f32], h: usize)
-    requires { ⌜ (h ≤ 240) × (length (now buf) ≡ 2 * h) × (length (now t) ≡ 4 * h) ⌝ }
-    ensures { λ _. ⌜ now (t .exit) ≡ unfolded h (now (buf .entry)) ⌝ }
+// The memory added to the first samples, as many as it has.
+fn overlap(memory: &[f32], samples: &mut [f32])
+    requires { ⌜ length (now memory) ≤ length (now samples) ⌝ }
+    ensures { λ _. ⌜ now (samples .exit) ≡ zipWith (add binary32) (now (memory .entry)) (take (length (now (memory .entry))) (now (samples .entry))) ++ drop (length (now (memory .entry))) (now (samples .entry)) ⌝ }
 {
-    let mut aside = half_nf_scratch();
-    let last = 3 * h;
-    mirror(buf, t);
-    copy(&t[..h], &mut aside[..h]);
-    move_three(t, h);
-    negate(&aside[..h], &mut t[last..]);
+    let mut i = 0;
+    while i < memory.len() {
+        samples[i] = memory[i] + samples[i];
+        i += 1;
+    }
 }
 
 // Inner. The samples: memory + places z to nf - 1, then places nf to nf + z - 1 as they are. The memory becomes places nf + z to 2 nf - 1.
-pub fn overlap_add(t: &[f32], memory: &mut [f32], samples: &mut [f32], z: usize)
-    requires { ⌜ (z ≤ length (now samples)) × (length (now t) ≡ 2 * length (now samples)) × (length (now memory) ≡ length (now samples) - z) ⌝ }
-    ensures samples { λ _. ⌜ now (samples .exit) ≡ output (length (now (samples .entry))) z (now (memory .entry)) (now (t .entry)) ⌝ }
-    ensures memory { λ _. ⌜ now (memory .exit) ≡ remains (length (now (samples .entry))) z (now (t .entry)) ⌝ }
+// The places are those that the values unfold to, under gain and window: each is computed where it goes, and no list holds them all. In either slice the next part of them begins at the seam.
+pub fn overlap_add(
+    v: &[f32],
+    w: &[u32],
+    memory: &mut [f32],
+    samples: &mut [f32],
+    z: usize,
+    h: usize,
+)
+    requires { ⌜ (h ≤ 240) × (z ≤ h) × (length (now v) ≡ 2 * h) × (length (now w) ≡ 4 * h) × Numbers (now w) × (length (now memory) ≡ 2 * h - z) × (length (now samples) ≡ 2 * h) ⌝ }
+    ensures samples { λ _. ⌜ now (samples .exit) ≡ output (2 * h) z (now (memory .entry)) (windowed (now (w .entry)) (unfolded h (now (v .entry)))) ⌝ }
+    ensures memory { λ _. ⌜ now (memory .exit) ≡ remains (2 * h) z (windowed (now (w .entry)) (unfolded h (now (v .entry)))) ⌝ }
 {
-    let nf = samples.len();
-    let kept = nf - z;
-    let end = nf + z;
-    sum(memory, &t[z..nf], &mut samples[..kept]);
-    copy(&t[end..], memory);
-    copy(&t[nf..end], &mut samples[kept..]);
+    let seam = h - z;
+    first_quarter(v, w, h, z, &mut samples[..seam]);
+    middle_half(v, w, h, h, &mut samples[seam..]);
+    overlap(memory, samples);
+    middle_half(v, w, h, 2 * h + z, &mut memory[..seam]);
+    last_quarter(v, w, h, &mut memory[seam..]);
 }

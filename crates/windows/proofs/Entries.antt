@@ -1,8 +1,7 @@
 -- Every entry of every window is finite and at most 2 in magnitude, so never a NaN: one computed test over the table of all, and a law at each
 -- entry of a configuration's window. A window has 2 nf entries: one computed test over the configurations. Assumes nothing.
-use mathlib.Core.Path.{_≡_, sym, ap, subst, _∙_}
+use mathlib.Core.Path.{_≡_, subst}
 use mathlib.Core.Bool.{Bool, not}
-use mathlib.Core.List.{List}
 use Prim.Native.Nat.{ℕ, _+_, _-_, _*_, _<_, _≤_}
 use native.Mathlib.Omega.{arith}
 use lib.Dec.{T, leb, leb→le}
@@ -62,10 +61,6 @@ window-number c v k h = rw (nanBits-is binary32 (getD (window c) k 0)) (number (
 
 pub window-numbers : (c : ℕ) → T (valid c) → Numbers (window c)
 window-numbers c v k h = window-number c v k (subst (λ (n : ℕ). k < n) (window-length c v) h)
-
--- the window of an arm of a match on the configurations is the configuration's
-pub of-arm : {c k : ℕ} {w : List ℕ} → c ≡ k → w ≡ window k → w ≡ window c
-of-arm e h = h ∙ ap window (sym e)
 
 pub rule : Rule
 rule = record { window-length = window-length; window-small = window-small; window-numbers = window-numbers }

@@ -1,89 +1,85 @@
--- `fold_low` meets its contract. The loop's invariant: the first i places of `out` are filled. Assumes nothing.
-use mathlib.Core.Path.{ap₂, ap, _∙_}
-use Prim.Native.Nat.{ℕ, _-_, _≤_}
+-- `fold_low` meets its contract: the frame's run and the run that meets the zeros, one behind the other. Assumes nothing.
+use mathlib.Core.Path.{sym, _∙_}
+use mathlib.Core.List.{_++_}
+use Prim.Native.Nat.{_+_, _-_, _*_}
 use native.Mathlib.Omega.{arith}
-use lib.Ieee.{Float, nan, binary32, sub, neg}
+use lib.ListN.{length}
+use lib.Seq.{length-take-le}
 use borrow.Author.Needs.{needs}
-use Rattle.laws.specs.Lists.{tab}
-use Rattle.laws.proofs.Lists.{Filled, filled-none, filled-more, filled-all}
-use Rattle.analysis_steps.specs.Fold.{weighed, foldLow}
+use Rattle.analysis_steps.specs.Fold.{weighed}
+use Rattle.analysis_steps.proofs.Buffers.{quiet}
+use Rattle.analysis_steps.proofs.Parts.{runs, two-parts}
+use Rattle.analysis_steps.proofs.Folds.{low, lowAt, still, frame-run, zeros-run}
 use Rattle.analysis_steps.proofs.fold_low.Statement.{statement}
 use Rattle.analysis_steps.proofs.fold_low.Tie as tie
 
-abbrev Inv-loop : tie.InvT-loop
-Inv-loop t w h out₀ i₀ out i = (i ≤ h) × Filled (foldLow h w t) out₀ i out
+sub-a : tie.Need-sub-a
+sub-a c = search needs
 
-abbrev μ-loop : tie.MeasureT-loop
-μ-loop t w h out₀ i₀ out i = h - i
+add-fold-frame : tie.Need-add-fold-frame
+add-fold-frame c = search needs
 
-loop-holds : tie.Need-loop-holds Inv-loop μ-loop
-loop-holds c = (omega arith, filled-none _ _)
+slice-relend-prefix-fold-frame : tie.Need-slice-relend-prefix-fold-frame
+slice-relend-prefix-fold-frame c = search needs
 
-mul-weighed : tie.Need-mul-weighed Inv-loop μ-loop
-mul-weighed c = search needs
+slice-aggregate-fold-frame : tie.Need-slice-aggregate-fold-frame
+slice-aggregate-fold-frame c =
+    let a = c .before .before .before .args in
+    sym (length-take-le (length (a .out .now) - a .z) (a .out .now) (omega arith))
 
-sub-weighed : tie.Need-sub-weighed Inv-loop μ-loop
-sub-weighed c = search needs
+fold-frame-requires : tie.Need-fold-frame-requires
+fold-frame-requires c κs =
+    let st = c .before .before .before in
+    let l = st .args .out .now in
+    let e = length-take-le (length l - st .args .z) l (omega arith) in
+    (omega arith, omega arith, omega arith, st .pre .3)
 
-sub-weighed-2 : tie.Need-sub-weighed-2 Inv-loop μ-loop
-sub-weighed-2 c = search needs
+mul-fold-zeros : tie.Need-mul-fold-zeros
+mul-fold-zeros c = search needs
 
-weighed-requires : tie.Need-weighed-requires Inv-loop μ-loop
-weighed-requires c κs = search needs
+mul-fold-zeros-2 : tie.Need-mul-fold-zeros-2
+mul-fold-zeros-2 c = search needs
 
-mul-weighed-2 : tie.Need-mul-weighed-2 Inv-loop μ-loop
-mul-weighed-2 c = search needs
+sub-fold-zeros : tie.Need-sub-fold-zeros
+sub-fold-zeros c = search needs
 
-add-weighed : tie.Need-add-weighed Inv-loop μ-loop
-add-weighed c = search needs
+part-fold-zeros-start : tie.Need-part-fold-zeros-start
+part-fold-zeros-start c = search needs
 
-weighed-requires-2 : tie.Need-weighed-requires-2 Inv-loop μ-loop
-weighed-requires-2 c κs = search needs
+part-fold-zeros-end : tie.Need-part-fold-zeros-end
+part-fold-zeros-end c = search needs
 
-mul-out : tie.Need-mul-out Inv-loop μ-loop
-mul-out c = search needs
+fold-zeros-requires : tie.Need-fold-zeros-requires
+fold-zeros-requires c κs = search needs
 
-slice-write-out : tie.Need-slice-write-out Inv-loop μ-loop
-slice-write-out c = search needs
-
-add-i : tie.Need-add-i Inv-loop μ-loop
-add-i c = search needs
-
-loop-less : tie.Need-loop-less Inv-loop μ-loop
-loop-less c = search needs
-
-loop-again : tie.Need-loop-again Inv-loop μ-loop
-unfolding foldLow
-loop-again c =
-    let h = c .before .before .before .loop .inv .1 in
-    (omega arith, filled-more _ nan h (omega arith) (ap₂ (λ (x y : Float). sub binary32 (neg x) y) (c .before .weighed .ensures) (c .weighed2 .ensures)))
-
-same-length : tie.Need-same-length Inv-loop μ-loop
+same-length : tie.Need-same-length
 same-length c = search needs
 
-returns : tie.Need-returns Inv-loop μ-loop
+returns : tie.Need-returns
 returns c =
-    let a = c .before .before .before .before .args in
-    filled-all (c .before .loop .inv .1) (omega arith) ∙ ap (λ (k : ℕ). tab k (foldLow (a .h) (a .w .now) (a .t .now))) (c .before .before .before .before .pre .0)
+    let st = c .before .before .before .before .before .before .before .before .before .before in
+    let x = st .args .x .now in
+    let w = st .args .w .now in
+    let z = st .args .z in
+    let l = st .args .out .now in
+    let h = length l in
+    two-parts (h - z) l _ _ (λ _. lowAt x w (h + z)) (λ _ i. low (weighed x w (2 * z - 1 - i)) (still w (length x + i))) (omega arith) (c .before .before .before .before .before .before .fold-frame .ensures) (c .before .before .fold-zeros .ensures)
+    ∙ runs (h - z) h _ _ (lowAt (x ++ quiet z) w (h + z)) (omega arith) (frame-run x w z h (st .pre .0) (st .pre .1)) (zeros-run x w z h (st .pre .0) (st .pre .1))
 
 pub fold-low-spec : {M : Type 1} → statement M
 fold-low-spec =
     tie.close
     (tie.spec
-    Inv-loop
-    μ-loop
-    loop-holds
-    mul-weighed
-    sub-weighed
-    sub-weighed-2
-    weighed-requires
-    mul-weighed-2
-    add-weighed
-    weighed-requires-2
-    mul-out
-    slice-write-out
-    add-i
-    loop-less
-    loop-again
+    sub-a
+    add-fold-frame
+    slice-relend-prefix-fold-frame
+    slice-aggregate-fold-frame
+    fold-frame-requires
+    mul-fold-zeros
+    mul-fold-zeros-2
+    sub-fold-zeros
+    part-fold-zeros-start
+    part-fold-zeros-end
+    fold-zeros-requires
     same-length
     returns)

@@ -1,40 +1,45 @@
--- `synthesis_steps::overlap_add` meets its contract: the sums written first and then the places behind them. Assumes nothing.
+-- `synthesis_steps::overlap_add` meets its contract: in the samples, before the memory is added, and in the memory the places of two calls are those that follow on one another.
+-- Assumes nothing.
 use mathlib.Core.Path.{_≡_, sym, ap, _∙_}
-use Prim.Native.Nat.{ℕ, _+_, _-_}
+use Prim.Native.Nat.{ℕ, _+_, _-_, _*_, _≤_}
 use native.Mathlib.Omega.{arith}
-use lib.ListN.{length, take, drop, length-drop}
+use lib.ListN.{length, take, drop}
 use lib.Seq.{length-take-le}
-use lib.Ieee.{binary32, add}
 use borrow.Author.Needs.{needs}
-use Rattle.synthesis_steps.specs.Places.{output, remains}
-use Rattle.synthesis_steps.proofs.Lists.{length-zipWith, two-parts}
-use Rattle.laws.proofs.Parts.{mid-tail}
+use Rattle.synthesis_steps.proofs.Lists.{two-places}
+use Rattle.synthesis_steps.proofs.Unfold.{places, length-places}
+use Rattle.synthesis_steps.proofs.Lengths.{made-output, made-remains}
 use Rattle.synthesis_steps.proofs.overlap_add.Statement.{statement}
 use Rattle.synthesis_steps.proofs.overlap_add.Tie as tie
 
-slice-aggregate-sum : tie.Need-slice-aggregate-sum
-slice-aggregate-sum c = sym (length-take-le _ _ (omega arith))
+first-quarter-requires : tie.Need-first-quarter-requires
+first-quarter-requires c κs =
+    let a = c .before .before .before .before .before .args in
+    let p = c .before .before .before .before .before .pre in
+    (p .0, p .2, p .3, p .4, omega (arith, p, length-take-le (a .h - a .z) (a .samples .now) (omega arith)))
 
-sum-requires : tie.Need-sum-requires
-sum-requires c κs =
-    let a = c .before .before .before .before .before .before .args in
-    let k = length (a .samples .now) - a .z in
-    let out = length-take-le k (a .samples .now) (omega arith) in
-    (c .before .before .before .before .before .before .pre .2 ∙ sym out, length-take-le k (drop (a .z) (a .t .now)) (omega (arith, length-drop (a .z) (a .t .now))) ∙ sym out)
+middle-half-requires : tie.Need-middle-half-requires
+middle-half-requires c κs = search needs
 
-behind : (n z : ℕ) → n + z - n ≡ z
-behind n z = omega arith
+middle-half-requires-2 : tie.Need-middle-half-requires-2
+middle-half-requires-2 c κs =
+    let a = c .before .before .before .before .before .before .before .before .before .before .before .before .before .before .before .before .before .before .args in
+    let p = c .before .before .before .before .before .before .before .before .before .before .before .before .before .before .before .before .before .before .pre in
+    (p .0, p .2, p .3, p .4, omega (arith, p), omega (arith, p, length-take-le (a .h - a .z) (a .memory .now) (omega arith)))
+
+last-quarter-requires : tie.Need-last-quarter-requires
+last-quarter-requires c κs = let p = c .before .before .before .before .before .before .before .before .before .before .before .before .before .before .before .before .before .before .before .before .before .before .pre in (p .0, p .2, p .3, p .4, search needs)
 
 returns : tie.Need-returns
-unfolding output remains
 returns c =
-    let a = c .before .before .before .before .before .before .before .before .before .before .before .before .before .before .before .before .before .before .before .args in
-    let t = a .t .now in
-    let n = length (a .samples .now) in
-    let p = c .before .before .before .before .before .before .before .before .before .before .before .before .before .before .before .before .before .before .before .pre in
-    let mid = length-take-le (n - a .z) (drop (a .z) t) (omega (arith, length-drop (a .z) t)) in (
-      two-parts (n - a .z) (a .samples .now) (c .before .before .before .before .before .before .before .before .before .before .before .before .sum .ensures) (length-zipWith (add binary32) (a .memory .now) (take (n - a .z) (drop (a .z) t)) (p .2 ∙ sym mid) ∙ p .2) (c .before .before .copy2 .ensures ∙ ap (λ (k : ℕ). take k (drop n t)) (behind n (a .z))),
-      c .before .before .before .before .before .before .before .copy .ensures ∙ mid-tail (n + a .z) t,
+    let a = c .before .before .before .before .before .before .before .before .before .before .before .before .before .before .before .before .before .before .before .before .before .before .before .before .before .args in
+    let p = c .before .before .before .before .before .before .before .before .before .before .before .before .before .before .before .before .before .before .before .before .before .before .before .before .before .pre in
+    let t = places (a .h) (a .v .now) (a .w .now) in
+    let n = length-places (a .h) (a .v .now) (a .w .now) (p .2) (p .3) in
+    let b : a .z ≤ 2 * a .h = omega (arith, p .1) in
+    let e : length t ≡ 2 * (2 * a .h) = omega (arith, n) in (
+      made-output (2 * a .h) (a .z) t b e (a .memory .now) (p .5) (two-places (a .h - a .z) (a .samples .now) (a .z) (a .h) t (omega (arith, p)) (omega (arith, p, n)) (omega arith) (c .before .before .before .before .before .before .before .before .before .before .before .before .before .before .before .before .before .before .before .first-quarter .ensures) (c .before .before .before .before .before .before .before .before .before .before .before .before .before .before .before .middle-half .ensures) ∙ ap (λ (k : ℕ). take k (drop (a .z) t)) (p .6)) (c .before .before .before .before .before .before .before .before .before .before .overlap .ensures),
+      made-remains (2 * a .h) (a .z) t b e (a .memory .now) (p .5) (two-places (a .h - a .z) (a .memory .now) (2 * a .h + a .z) (3 * a .h) t (omega (arith, p)) (omega (arith, p, n)) (omega arith) (c .before .before .before .before .before .before .middle-half2 .ensures) (c .before .before .last-quarter .ensures)),
     )
 
 -- the needs without a name, for any answer: a wrong one hides none of them
@@ -44,27 +49,24 @@ safe returns =
     (tie.spec
     (λ c. search needs)
     (λ c. search needs)
+    (λ c. sym (length-take-le _ _ (omega arith)))
+    first-quarter-requires
     (λ c. search needs)
     (λ c. search needs)
     (λ c. search needs)
     (λ c. search needs)
-    (λ c. search needs)
-    slice-aggregate-sum
-    sum-requires
-    (λ c. search needs)
-    (λ c. search needs)
-    (λ c. search needs)
-    (λ c. search needs)
+    middle-half-requires
     (λ c κs. search needs)
     (λ c. search needs)
     (λ c. search needs)
     (λ c. search needs)
+    (λ c. sym (length-take-le _ _ (omega arith)))
+    middle-half-requires-2
     (λ c. search needs)
     (λ c. search needs)
     (λ c. search needs)
     (λ c. search needs)
-    (λ c. search needs)
-    (λ c κs. search needs)
+    last-quarter-requires
     (λ c. search needs)
     (λ c. search needs)
     returns)
