@@ -2,6 +2,7 @@
 //! on their copy with the short frames, and knows the configurations of those that it is built on.
 //!   check                     compares the bits of both on random input, and prints how many calls agree
 //!   count SIDE CALL CONFIG N  makes N calls and prints nothing: its instructions are what is counted
+//!   time CALL CONFIG          times both sides alternately, and prints the shortest time of a call of ours and of lc3-codec's, in nanoseconds
 //!   stack SIDE CALL CONFIG    prints how many bytes of stack a call touches, a channel handed in by value included
 //! SIDE is rust or port, CALL dct, analysis or synthesis. Buffers are made once and never cleared between calls.
 
@@ -12,6 +13,7 @@ use crate::common::config::Lc3Config;
 use crate::common::dct_iv::DiscreteCosTransformIv;
 use crate::{configs, decoder, encoder};
 use std::io;
+use std::time::Instant;
 
 const ROUNDS: usize = 50;
 const CALLS: [&str; 3] = ["dct", "analysis", "synthesis"];
@@ -234,6 +236,34 @@ fn count(call: &str, mut made: Box<dyn Call>, n: usize) {
     }
 }
 
+/// Runs of each side, and calls in a run.
+const TURNS: usize = 60;
+const CALLS_A_TURN: usize = 200;
+
+/// Nanoseconds of a call, over one run of calls.
+fn a_turn(made: &mut dyn Call) -> f64 {
+    let start = Instant::now();
+    for _ in 0..CALLS_A_TURN {
+        made.make();
+    }
+    start.elapsed().as_nanos() as f64 / CALLS_A_TURN as f64
+}
+
+/// The shortest of each side's turns: what else the machine does only lengthens them.
+fn time(call: &str, number: u8) {
+    let mut sides = [ours(call, number), rust(call, number)];
+    if call != "dct" {
+        sides.iter_mut().for_each(|side| side.give(&mut Random(1)));
+    }
+    let mut best = [f64::INFINITY; 2];
+    for _ in 0..TURNS {
+        for (side, shortest) in sides.iter_mut().zip(&mut best) {
+            *shortest = shortest.min(a_turn(&mut **side));
+        }
+    }
+    println!("{:.1} {:.1}", best[0], best[1]);
+}
+
 const PAINT: u64 = 0xA5C3_5A3C_96E1_1E69;
 const DEPTH: usize = 1 << 20;
 /// What a function may use below its stack pointer.
@@ -269,6 +299,7 @@ pub fn main() -> io::Result<()> {
     match words[0].as_str() {
         "check" => check(),
         "count" => count(&words[2], chosen(&words[1], &words[2], number(3) as u8), number(4)),
+        "time" => time(&words[1], number(2) as u8),
         _ => stack(words[1].clone(), words[2].clone(), number(3) as u8),
     }
     Ok(())
