@@ -1,1 +1,2 @@
 pub mod Butterflies
+pub mod Beside

@@ -1,0 +1,37 @@
+-- The transform with its twiddles packed: a stage's one beside the other, then those of the rest of the plan. Definitions only.
+use mathlib.Core.Path.{_≡_}
+use mathlib.Core.Bool.{Bool, cond}
+use mathlib.Core.List.{List, [], _∷_}
+use Prim.Native.Nat.{ℕ, suc, _+_, _*_, _-_, _/_, _%_, _<_}
+use lib.Dec.{eqb}
+use Rattle.complex.specs.declared.Complex.{Complex}
+use Rattle.complex.specs.Complex.{parts}
+use Rattle.butterflies.specs.Butterflies.{stage}
+use Rattle.butterflies.specs.Beside.{one32, beside, beside2, beside3, beside4, beside5}
+
+-- what is left of a table for the rest of the plan, after the twiddles of a stage of radix p with parts of m places
+abbrev pub after : (ℕ → Complex) → ℕ → ℕ → ℕ → Complex
+after u p m k = u (m * (p - 1) + k)
+
+-- `column`, with the packed table u
+unfoldable pub packedColumn : (ℕ → Complex) → Bool → ℕ → ℕ → ℕ → (ℕ → Complex) → ℕ → Complex
+packedColumn u inverse p m =
+    cond (eqb p 2) (beside2 u m) (cond (eqb p 3) (beside3 u m) (cond (eqb p 4) (beside4 inverse u m) (λ j. beside5 u)))
+
+-- `work`, with the packed table u
+unfoldable pub packedWork : (ℕ → Complex) → Bool → (ℕ → Complex) → List ℕ → ℕ → ℕ → ℕ → Complex
+packedWork u inverse x [] s o k = x o
+packedWork u inverse x (p ∷ []) s o k = x o
+packedWork u inverse x (p ∷ m ∷ ps) s o k =
+    stage p m (packedColumn u inverse p m) (λ k. packedWork (after u p m) inverse x ps (s * p) (o + k / m * s) (k % m)) k
+
+-- The table u has of the twiddles t those that the plan reads at stride s. Of the innermost stage: no turn, a fifth and two fifths. Of every other: twiddle q j s
+-- at place j of part q, and in radix 3 a third of a turn at its end.
+unfoldable pub Packed : (ℕ → Complex) → List ℕ → ℕ → (ℕ → Complex) → Type 0
+Packed t [] s u = Unit {0}
+Packed t (p ∷ []) s u = Unit {0}
+Packed t (p ∷ m ∷ []) s u = (parts one32 (u 0 .i) ≡ t 0) × (u 1 ≡ t s) × (u 2 ≡ t (2 * s))
+Packed t (p ∷ m ∷ r ∷ ps) s u =
+    ((j q : ℕ) → j < m → suc q < p → beside u m j q ≡ t (suc q * (j * s)))
+    × (p ≡ 3 → u (3 * m - 2) ≡ t (s * m))
+    × Packed t (r ∷ ps) (s * p) (after u p m)
