@@ -1,2 +1,1 @@
 pub mod Butterflies
-pub mod Beside

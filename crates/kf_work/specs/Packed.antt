@@ -7,16 +7,16 @@ use lib.Dec.{eqb}
 use Rattle.complex.specs.declared.Complex.{Complex}
 use Rattle.complex.specs.Complex.{parts}
 use Rattle.butterflies.specs.Butterflies.{stage}
-use Rattle.butterflies.specs.Beside.{one32, beside, beside2, beside3, beside4, beside5}
+use Rattle.quads.specs.Beside.{one32, beside, beside2, beside3, beside4, beside5}
 
 -- what is left of a table for the rest of the plan, after the twiddles of a stage of radix p with parts of m places
 abbrev pub after : (ℕ → Complex) → ℕ → ℕ → ℕ → Complex
 after u p m k = u (m * (p - 1) + k)
 
--- `column`, with the packed table u
+-- `column`, with the packed table u, whose last place is a third of a turn: it has as many places as the block but one
 unfoldable pub packedColumn : (ℕ → Complex) → Bool → ℕ → ℕ → ℕ → (ℕ → Complex) → ℕ → Complex
 packedColumn u inverse p m =
-    cond (eqb p 2) (beside2 u m) (cond (eqb p 3) (beside3 u m) (cond (eqb p 4) (beside4 inverse u m) (λ j. beside5 u)))
+    cond (eqb p 2) (beside2 u m) (cond (eqb p 3) (beside3 (u (3 * m - 2)) u m) (cond (eqb p 4) (beside4 inverse u m) (λ j. beside5 u)))
 
 -- `work`, with the packed table u
 unfoldable pub packedWork : (ℕ → Complex) → Bool → (ℕ → Complex) → List ℕ → ℕ → ℕ → ℕ → Complex

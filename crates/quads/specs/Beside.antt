@@ -1,6 +1,7 @@
--- A stage whose twiddles stand one beside the other in a table, in parts of m places as the block's: what it makes of column j. Definitions only.
+-- What a stage makes of column j where its twiddles stand one beside the other, in parts of m places as the block's. A column is a function from its part q to
+-- a complex number. Definitions only.
 use mathlib.Core.Bool.{Bool}
-use Prim.Native.Nat.{ℕ, zero, suc, _+_, _*_, _-_}
+use Prim.Native.Nat.{ℕ, zero, suc, _+_, _*_}
 use lib.Ieee.{Float, binary32, ofBits}
 use Rattle.complex.specs.declared.Complex.{Complex}
 use Rattle.complex.specs.Complex.{parts, times}
@@ -18,9 +19,9 @@ beside u m j q = u (j + m * q)
 unfoldable pub beside2 : (ℕ → Complex) → ℕ → ℕ → (ℕ → Complex) → ℕ → Complex
 beside2 u m j c = two (twistBy (beside u m j) c)
 
--- a third of a turn is the last of the table, which has as many places as the block but one
-unfoldable pub beside3 : (ℕ → Complex) → ℕ → ℕ → (ℕ → Complex) → ℕ → Complex
-beside3 u m j c = three (u (3 * m - 2)) (twistBy (beside u m j) c)
+-- y is a third of a turn
+unfoldable pub beside3 : Complex → (ℕ → Complex) → ℕ → ℕ → (ℕ → Complex) → ℕ → Complex
+beside3 y u m j c = three y (twistBy (beside u m j) c)
 
 unfoldable pub beside4 : Bool → (ℕ → Complex) → ℕ → ℕ → (ℕ → Complex) → ℕ → Complex
 beside4 inverse u m j c = four inverse (twistBy (beside u m j) c)
