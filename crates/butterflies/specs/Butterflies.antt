@@ -4,7 +4,7 @@ use mathlib.Core.Bool.{Bool, cond}
 use Prim.Native.Nat.{ℕ, zero, suc, _+_, _*_, _/_, _%_}
 use lib.Dec.{ltb}
 use Rattle.complex.specs.declared.Complex.{Complex}
-use Rattle.complex.specs.Complex.{times, upd}
+use Rattle.complex.specs.Complex.{times}
 use Rattle.columns.specs.Column.{two, three, four, five}
 
 -- A block has p parts of m places. Column j is its places j, j + m, .. , and b j turns a column into a column. Places past the block stay.
@@ -28,8 +28,3 @@ column4 inverse t s j c = four inverse (twist t (j * s) c)
 
 unfoldable pub column5 : (ℕ → Complex) → ℕ → ℕ → ℕ → (ℕ → Complex) → ℕ → Complex
 column5 t s m j c = five (t (s * m)) (t (2 * (s * m))) (twist t (j * s) c)
-
--- g with q places of column i, which are i, i + m, .. , at v 0, v 1, ..
-abbrev pub writes : ℕ → (ℕ → Complex) → ℕ → (ℕ → Complex) → ℕ → ℕ → Complex
-writes m g i v zero = g
-writes m g i v (suc q) = upd (writes m g i v q) (i + m * q) (v q)
