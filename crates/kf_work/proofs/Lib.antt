@@ -1,5 +1,6 @@
-pub mod Factor
 pub mod Spread
 pub mod Plan
+pub mod Stages
 pub mod Parts
+pub mod Packed
 pub mod Sizes

@@ -1,12 +1,13 @@
 -- The transform with its twiddles packed: a stage's one beside the other, then those of the rest of the plan. Definitions only.
 use mathlib.Core.Path.{_≡_}
-use mathlib.Core.Bool.{Bool, cond}
+use mathlib.Core.Bool.{Bool, false, cond, _&&_}
 use mathlib.Core.List.{List, [], _∷_}
 use Prim.Native.Nat.{ℕ, suc, _+_, _*_, _-_, _/_, _%_, _<_}
-use lib.Dec.{eqb}
+use lib.Dec.{leb, eqb}
 use Rattle.complex.specs.declared.Complex.{Complex}
 use Rattle.complex.specs.Complex.{parts}
 use Rattle.butterflies.specs.Butterflies.{stage}
+use Rattle.kf_work.specs.Work.{plan}
 use Rattle.quads.specs.Beside.{one32, beside, beside2, beside3, beside4, beside5}
 
 -- what is left of a table for the rest of the plan, after the twiddles of a stage of radix p with parts of m places
@@ -18,12 +19,27 @@ unfoldable pub packedColumn : (ℕ → Complex) → Bool → ℕ → ℕ → ℕ
 packedColumn u inverse p m =
     cond (eqb p 2) (beside2 u m) (cond (eqb p 3) (beside3 (u (3 * m - 2)) u m) (cond (eqb p 4) (beside4 inverse u m) (λ j. beside5 u)))
 
+-- a plan whose innermost stage has radix 5, and no other one: what `kf_work` takes
+unfoldable pub fives : List ℕ → Bool
+fives [] = false
+fives (p ∷ []) = false
+fives (p ∷ m ∷ []) = eqb p 5
+fives (p ∷ m ∷ r ∷ ps) = leb p 4 && fives (r ∷ ps)
+
 -- `work`, with the packed table u
 unfoldable pub packedWork : (ℕ → Complex) → Bool → (ℕ → Complex) → List ℕ → ℕ → ℕ → ℕ → Complex
 packedWork u inverse x [] s o k = x o
 packedWork u inverse x (p ∷ []) s o k = x o
 packedWork u inverse x (p ∷ m ∷ ps) s o k =
     stage p m (packedColumn u inverse p m) (λ k. packedWork (after u p m) inverse x ps (s * p) (o + k / m * s) (k % m)) k
+
+-- its innermost stage, of radix 5, on x o, x (o + s), ..
+unfoldable pub innermost : (ℕ → Complex) → (ℕ → Complex) → ℕ → ℕ → ℕ → Complex
+innermost u x s o = beside5 u (λ q. x (o + q * s))
+
+-- `spectrum`, with the packed table u
+unfoldable pub packedSpectrum : (ℕ → Complex) → Bool → ℕ → (ℕ → Complex) → ℕ → Complex
+packedSpectrum u inverse n x = packedWork u inverse x (plan n) 1 0
 
 -- The table u has of the twiddles t those that the plan reads at stride s. Of the innermost stage: no turn, a fifth and two fifths. Of every other: twiddle q j s
 -- at place j of part q, and in radix 3 a third of a turn at its end.

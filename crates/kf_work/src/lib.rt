@@ -1,79 +1,59 @@
-// The recursive transform by a plan, below the tables and the refusals: the plan of a size, and the stage that calls itself on the rest of it.
+// The recursive transform by a plan, below the tables and the refusals: the stage that calls itself on the rest of the plan.
 // Ported from src/common/kissfft.rs of lc3-codec 0.2.0, and changed: real and imaginary parts in slices of their own, twiddles and plan
-// lent. The butterflies are a crate below this one.
+// lent, the twiddles in the order in which the stages read them; the innermost stage is done in the one above it. The butterflies are a crate below this one.
 ghost use mathlib.Core.Path.{_≡_};
-ghost use mathlib.Core.List.{_++_};
-ghost use Prim.Native.Nat.{_+_, _*_, _<_, _≤_};
+ghost use Prim.Native.Nat.{_+_, _*_, _/_, _%_, _<_, _≤_};
 ghost use lib.Dec.{T};
-ghost use lib.ListN.{length, drop};
+ghost use lib.ListN.{length, getD};
 ghost use Rattle.complex.specs.Complex.{at};
+ghost use Rattle.columns.specs.Column.{of5};
 ghost use Rattle.butterflies.specs.Butterflies.{stage};
 ghost use Rattle.config.specs.Config.{among, fftSizes};
-ghost use Rattle.kf_work.specs.Work.{next, trial, plan, span, planned, column, work, within, spectrum, reals, imaginaries};
+ghost use Rattle.kf_work.specs.Work.{plan, span, planned, within, reals, imaginaries};
+ghost use Rattle.kf_work.specs.Packed.{packedColumn, fives, packedWork, innermost, packedSpectrum};
 use butterflies::kf_bfly2;
 use butterflies::kf_bfly3;
 use butterflies::kf_bfly4;
 use butterflies::kf_bfly5;
+use columns::Out5;
 use complex::get;
-use complex::put;
 
-// The number tried after p.
-fn next(p: usize) -> usize
-    requires { ⌜ p < 70000 ⌝ }
-    ensures { λ r. ⌜ r ≡ next p ⌝ }
+// Places from, from + s, .. of the input: the five numbers of an innermost stage.
+fn copied(x: &[f32], y: &[f32], s: usize, from: usize) -> Out5
+    requires { ⌜ («from» + 4 * s < length (now x)) × («from» + 4 * s < length (now y)) ⌝ }
+    ensures { λ r. ⌜ r ≡ of5 (λ q. at (now (x .entry)) (now (y .entry)) («from» + q * s)) ⌝ }
 {
-    if p == 4 {
-        return 2;
+    Out5 {
+        a: get(x, y, from),
+        b: get(x, y, from + s),
+        c: get(x, y, from + 2 * s),
+        d: get(x, y, from + 3 * s),
+        e: get(x, y, from + 4 * s),
     }
-    if p == 2 {
-        return 3;
-    }
-    p + 2
 }
 
-// The trial after p, where n is the rest of the size: above the root of the whole size, the rest itself.
-fn trial(size: usize, n: usize, p: usize) -> usize
-    requires { ⌜ p < 70000 ⌝ }
-    ensures { λ r. ⌜ r ≡ trial size n p ⌝ }
+// The innermost stages below the plan's first radix, which they are as many as, one after the other. The radix is read at each turn: of a loop with a known
+// count the compiler makes a second, for many turns, which never runs and takes 400 bytes of stack.
+fn kf_leaves(
+    re: &mut [f32],
+    im: &mut [f32],
+    x: &[f32],
+    y: &[f32],
+    tr: &[f32],
+    ti: &[f32],
+    plan: &[usize],
+    fstride: usize,
+    from: usize,
+)
+    requires { ⌜ (0 < length (now plan)) × («from» < fstride) × (5 * (fstride * getD (now plan) 0 0) ≤ length (now x)) × (5 * (fstride * getD (now plan) 0 0) ≤ length (now y)) × (3 ≤ length (now tr)) × (3 ≤ length (now ti)) × (getD (now plan) 0 0 * 5 ≤ length (now re)) × (getD (now plan) 0 0 * 5 ≤ length (now im)) ⌝ }
+    ensures { λ _. ⌜ at (now (re .exit)) (now (im .exit)) ≡ within (getD (now (plan .entry)) 0 0 * 5) (λ k. innermost (at (now (tr .entry)) (now (ti .entry))) (at (now (x .entry)) (now (y .entry))) (fstride * getD (now (plan .entry)) 0 0) («from» + k / 5 * fstride) (k % 5)) (at (now (re .entry)) (now (im .entry))) ⌝ }
 {
-    let q = next(p);
-    if size < q * q {
-        return n;
-    }
-    q
-}
-
-// The plan of a size into the first places of factors, and how many they are.
-fn kf_factor(size: usize, factors: &mut [usize]) -> usize
-    requires { ⌜ (size < 65536) × (32 ≤ length (now factors)) ⌝ }
-    ensures { λ r. ⌜ (r ≡ length (plan size)) × (now (factors .exit) ≡ plan size ++ drop (length (plan size)) (now (factors .entry))) ⌝ }
-{
-    let mut n = size;
-    let mut p: usize = 4;
-    let mut i: usize = 0;
-    for step in 0..16usize {
-        if n % p == 0 {
-            n = n / p;
-            factors[i] = p;
-            factors[i + 1] = n;
-            i += 2;
-            if n <= 1 {
-                return i;
-            }
-        } else {
-            p = trial(size, n, p);
-        }
-    }
-    i
-}
-
-// The first p places become places from, from + fstride, .. of the input.
-fn copy(re: &mut [f32], im: &mut [f32], x: &[f32], y: &[f32], p: usize, fstride: usize, from: usize)
-    requires { ⌜ («from» < fstride) × (p * fstride ≤ length (now x)) × (p * fstride ≤ length (now y)) × (p ≤ length (now re)) × (p ≤ length (now im)) ⌝ }
-    ensures { λ _. ⌜ at (now (re .exit)) (now (im .exit)) ≡ within p (λ q. at (now (x .entry)) (now (y .entry)) («from» + q * fstride)) (at (now (re .entry)) (now (im .entry))) ⌝ }
-{
-    for q in 0..p {
-        put(re, im, q, get(x, y, from + q * fstride));
+    let s = fstride * plan[0];
+    let mut q = 0;
+    while q < plan[0] {
+        let column = copied(x, y, s, from + q * fstride);
+        kf_bfly5(&mut re[q * 5..], &mut im[q * 5..], column, tr, ti);
+        q += 1;
     }
 }
 
@@ -83,19 +63,17 @@ fn kf_bfly(
     im: &mut [f32],
     tr: &[f32],
     ti: &[f32],
-    fstride: usize,
     p: usize,
     m: usize,
     inverse: bool,
 )
-    requires { ⌜ (2 ≤ p) × (p ≤ 5) × (0 < fstride) × (0 < m) × (p * (fstride * m) ≤ length (now tr)) × (p * (fstride * m) ≤ length (now ti)) × (m * p ≤ length (now re)) × (m * p ≤ length (now im)) ⌝ }
-    ensures { λ _. ⌜ at (now (re .exit)) (now (im .exit)) ≡ stage p m (column (at (now (tr .entry)) (now (ti .entry))) inverse fstride p m) (at (now (re .entry)) (now (im .entry))) ⌝ }
+    requires { ⌜ (2 ≤ p) × (p ≤ 4) × (0 < m) × (m * p ≤ 1 + length (now tr)) × (m * p ≤ 1 + length (now ti)) × (m * p ≤ length (now re)) × (m * p ≤ length (now im)) ⌝ }
+    ensures { λ _. ⌜ at (now (re .exit)) (now (im .exit)) ≡ stage p m (packedColumn (at (now (tr .entry)) (now (ti .entry))) inverse p m) (at (now (re .entry)) (now (im .entry))) ⌝ }
 {
     match p {
-        2 => kf_bfly2(re, im, tr, ti, fstride, m),
-        3 => kf_bfly3(re, im, tr, ti, fstride, m),
-        4 => kf_bfly4(re, im, tr, ti, fstride, m, inverse),
-        _ => kf_bfly5(re, im, tr, ti, fstride, m),
+        2 => kf_bfly2(re, im, tr, ti, m),
+        3 => kf_bfly3(re, im, tr, ti, m),
+        _ => kf_bfly4(re, im, tr, ti, m, inverse),
     }
 }
 
@@ -112,13 +90,16 @@ fn kf_work(
     from: usize,
     inverse: bool,
 )
-    requires { ⌜ T (planned (now plan)) × (0 < length (now plan)) × («from» < fstride) × (span (now plan) * fstride ≤ length (now x)) × (span (now plan) * fstride ≤ length (now y)) × (span (now plan) * fstride ≤ length (now tr)) × (span (now plan) * fstride ≤ length (now ti)) × (span (now plan) ≤ length (now re)) × (span (now plan) ≤ length (now im)) ⌝ }
-    ensures { λ _. ⌜ at (now (re .exit)) (now (im .exit)) ≡ within (span (now (plan .entry))) (work (at (now (tr .entry)) (now (ti .entry))) inverse (at (now (x .entry)) (now (y .entry))) (now (plan .entry)) fstride «from») (at (now (re .entry)) (now (im .entry))) ⌝ }
+    requires { ⌜ T (planned (now plan)) × T (fives (now plan)) × (2 < length (now plan)) × («from» < fstride) × (span (now plan) * fstride ≤ length (now x)) × (span (now plan) * fstride ≤ length (now y)) × (span (now plan) ≤ 1 + length (now tr)) × (span (now plan) ≤ 1 + length (now ti)) × (span (now plan) ≤ length (now re)) × (span (now plan) ≤ length (now im)) ⌝ }
+    ensures { λ _. ⌜ at (now (re .exit)) (now (im .exit)) ≡ within (span (now (plan .entry))) (packedWork (at (now (tr .entry)) (now (ti .entry))) inverse (at (now (x .entry)) (now (y .entry))) (now (plan .entry)) fstride «from») (at (now (re .entry)) (now (im .entry))) ⌝ }
 {
     let p = plan[0];
     let m = plan[1];
-    if m == 1 {
-        copy(re, im, x, y, p, fstride, from);
+    let k = m * (p - 1);
+    let ur = &tr[k..];
+    let ui = &ti[k..];
+    if m == 5 {
+        kf_leaves(re, im, x, y, ur, ui, plan, fstride, from);
     } else {
         let rest = &plan[2..];
         for q in 0..p {
@@ -127,8 +108,8 @@ fn kf_work(
                 &mut im[q * m..],
                 x,
                 y,
-                tr,
-                ti,
+                ur,
+                ui,
                 rest,
                 fstride * p,
                 from + q * fstride,
@@ -136,10 +117,10 @@ fn kf_work(
             );
         }
     }
-    kf_bfly(re, im, tr, ti, fstride, p, m, inverse);
+    kf_bfly(re, im, tr, ti, p, m, inverse);
 }
 
-// Inner. The transform of the numbers in x and y into re and im, with the twiddles of its direction.
+// Inner. The transform of the numbers in x and y into re and im, with the plan of their number and the packed twiddles of its direction.
 pub fn transform(
     re: &mut [f32],
     im: &mut [f32],
@@ -147,12 +128,11 @@ pub fn transform(
     y: &[f32],
     tr: &[f32],
     ti: &[f32],
+    factors: &[usize],
     inverse: bool,
 )
-    requires { ⌜ T (among fftSizes (length (now x))) × (length (now y) ≡ length (now x)) × (length (now tr) ≡ length (now x)) × (length (now ti) ≡ length (now x)) × (length (now re) ≡ length (now x)) × (length (now im) ≡ length (now x)) ⌝ }
-    ensures { λ _. ⌜ (now (re .exit) ≡ reals (length (now (x .entry))) (spectrum (at (now (tr .entry)) (now (ti .entry))) inverse (length (now (x .entry))) (at (now (x .entry)) (now (y .entry))))) × (now (im .exit) ≡ imaginaries (length (now (x .entry))) (spectrum (at (now (tr .entry)) (now (ti .entry))) inverse (length (now (x .entry))) (at (now (x .entry)) (now (y .entry))))) ⌝ }
+    requires { ⌜ T (among fftSizes (length (now x))) × (length (now y) ≡ length (now x)) × (length (now x) ≡ 1 + length (now tr)) × (length (now x) ≡ 1 + length (now ti)) × (now factors ≡ plan (length (now x))) × (length (now re) ≡ length (now x)) × (length (now im) ≡ length (now x)) ⌝ }
+    ensures { λ _. ⌜ (now (re .exit) ≡ reals (length (now (x .entry))) (packedSpectrum (at (now (tr .entry)) (now (ti .entry))) inverse (length (now (x .entry))) (at (now (x .entry)) (now (y .entry))))) × (now (im .exit) ≡ imaginaries (length (now (x .entry))) (packedSpectrum (at (now (tr .entry)) (now (ti .entry))) inverse (length (now (x .entry))) (at (now (x .entry)) (now (y .entry))))) ⌝ }
 {
-    let mut factors = [0usize; 32];
-    let count = kf_factor(x.len(), &mut factors);
-    kf_work(re, im, x, y, tr, ti, &factors[..count], 1, 0, inverse);
+    kf_work(re, im, x, y, tr, ti, factors, 1, 0, inverse);
 }

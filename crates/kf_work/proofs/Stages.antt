@@ -1,0 +1,62 @@
+-- A stage over sub-transforms that are done, whatever they are: w o k is place k of the sub-transform that begins at place o of the input. Assumes nothing.
+use mathlib.Core.Path.{_≡_, ap, _∙_, sym, fun-ext}
+use mathlib.Core.Bool.{Bool}
+use Prim.Native.Nat.{ℕ, zero, suc, _+_, _*_, _/_, _%_, _<_, _≤_}
+use native.Mathlib.Nat.{mul-le-mul-left, mul-comm, mul-suc, mod-lt}
+use native.Mathlib.Decide.{decLt}
+use native.Mathlib.Omega.{arith}
+use borrow.Author.Tests.{lt-ltb, le-ltb}
+use Rattle.complex.specs.declared.Complex.{Complex}
+use Rattle.butterflies.specs.Butterflies.{stage}
+use Rattle.butterflies.proofs.Columns.{Local}
+use Rattle.butterflies.proofs.Local.{local2, local3, local4}
+use Rattle.kf_work.specs.Work.{within}
+use Rattle.kf_work.specs.Packed.{packedColumn}
+use Rattle.kf_work.proofs.Spread.{within-lt, within-ge}
+
+-- the sub-transforms of m places each, one after the other
+abbrev pub blocks : (ℕ → ℕ → Complex) → ℕ → ℕ → ℕ → ℕ → Complex
+blocks w m s o k = w (o + k / m * s) (k % m)
+
+pub column-local : (u : ℕ → Complex) (inverse : Bool) (p m : ℕ) → 2 ≤ p → p ≤ 4 → Local p m (packedColumn u inverse p m)
+unfolding packedColumn
+column-local u inverse zero m l h = absurd (omega arith)
+column-local u inverse (suc zero) m l h = absurd (omega arith)
+column-local u inverse (suc (suc zero)) m l h = local2 u m
+column-local u inverse (suc (suc (suc zero))) m l h = local3 u m _
+column-local u inverse (suc (suc (suc (suc zero)))) m l h = local4 u m inverse
+column-local u inverse (suc (suc (suc (suc (suc p))))) m l h = absurd (omega arith)
+
+-- a stage looks at its block alone
+stage-local : (p m : ℕ) (b : ℕ → (ℕ → Complex) → ℕ → Complex) → Local p m b → 0 < m → (f g : ℕ → Complex) → ((k : ℕ) → k < p * m → f k ≡ g k)
+    → (k : ℕ) → k < p * m → stage p m b f k ≡ stage p m b g k
+unfolding stage
+stage-local p m b loc h f g e k l =
+    rw (lt-ltb k (p * m) l)
+    (ap (λ (c : ℕ → Complex). c (k / m)) (loc (k % m) _ _ (λ q j. e (k % m + m * q) (inside q j))))
+  where
+    inside : (q : ℕ) → q < p → k % m + m * q < p * m
+    inside q j = omega (arith, mod-lt k h, mul-le-mul-left m j, mul-suc m q, mul-comm m p)
+
+stage-past : (p m : ℕ) (b : ℕ → (ℕ → Complex) → ℕ → Complex) (g : ℕ → Complex) (k : ℕ) → p * m ≤ k → stage p m b g k ≡ g k
+unfolding stage
+stage-past p m b g k h = rw (le-ltb k (p * m) h)
+
+-- one stage over them is the transform
+pub finish : (p m : ℕ) (b : ℕ → (ℕ → Complex) → ℕ → Complex) → Local p m b → 0 < m → (w f g g′ : ℕ → Complex)
+    → g ≡ within (p * m) w f → g′ ≡ stage p m b g → g′ ≡ within (p * m) (stage p m b w) f
+finish p m b loc h w f g g′ before after = fun-ext (λ k. elim (decLt k (p * m)) [ yes l ↦ low k l | no n ↦ high k (omega arith) ])
+  where
+    low : (k : ℕ) → k < p * m → g′ k ≡ within (p * m) (stage p m b w) f k
+    low k l =
+        ap (λ (c : ℕ → Complex). c k) after
+        ∙ stage-local p m b loc h g w (λ j i. ap (λ (c : ℕ → Complex). c j) before ∙ within-lt (p * m) w f j i) k l
+        ∙ sym (within-lt (p * m) (stage p m b w) f k l)
+
+    high : (k : ℕ) → p * m ≤ k → g′ k ≡ within (p * m) (stage p m b w) f k
+    high k l =
+        ap (λ (c : ℕ → Complex). c k) after
+        ∙ stage-past p m b g k l
+        ∙ ap (λ (c : ℕ → Complex). c k) before
+        ∙ within-ge (p * m) w f k l
+        ∙ sym (within-ge (p * m) (stage p m b w) f k l)
