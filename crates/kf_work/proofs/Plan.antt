@@ -3,13 +3,17 @@ use mathlib.Core.Path.{_≡_, refl, sym, ap, _∙_, subst}
 use mathlib.Core.Bool.{Bool, true, false, _&&_}
 use mathlib.Core.List.{List, [], _∷_}
 use Prim.Native.Nat.{ℕ, zero, suc, _+_, _*_, _-_, _<_, _≤_}
-use native.Mathlib.Nat.{mul-le-mul-right, mul-comm, mul-assoc, suc-mul}
+use native.Mathlib.Nat.{mul-le-mul-right, mul-comm, mul-assoc, suc-mul, mul-suc}
 use native.Mathlib.Omega.{arith}
 use lib.Dec.{T, leb, eqb, leb→le, eqb→eq}
 use lib.ListN.{length, getD, take, drop}
 use lib.Seq.{take-all}
 use Rattle.kf_work.specs.Work.{span, planned}
 use Rattle.kf_work.specs.Packed.{fives}
+
+-- the numbers of a stage whose radix is known
+pub at-radix : (p q m a b c d : ℕ) → p ≡ q → m * p ≤ 1 + a → m * p ≤ 1 + b → m * p ≤ c → m * p ≤ d → (m * q ≤ 1 + a) × (m * q ≤ 1 + b) × (m * q ≤ c) × (m * q ≤ d)
+at-radix p q m a b c d e ha hb hc hd = rw (← e) (ha, hb, hc, hd)
 
 pub and-l : (a b : Bool) → T (a && b) → T a
 and-l true b h = tt
@@ -66,6 +70,12 @@ module _ (ps : List ℕ) (p m : ℕ) (rest : List ℕ) (sp : Split ps p m rest) 
 
   pub inner-positive : 0 < m
   inner-positive = subst (λ (k : ℕ). 0 < k) (sym (sp .inner)) (span-positive rest (sp .left))
+
+  -- a stage's twiddles, and those of the rest
+  pub table-nums : m * (p - 1) + m ≡ span ps
+  table-nums =
+      let e : suc (p - 1) ≡ p = omega (arith, sp .at-least) in
+      omega (arith, mul-suc m (p - 1), ap (λ (k : ℕ). m * k) e, mul-comm m p, whole)
 
   -- the numbers of the q-th sub-transform
   pub sub-nums : (s o q : ℕ) → o < s → q < p → (q * m + m ≤ span ps) × (span rest * (s * p) ≡ span ps * s) × (s * p ≤ span ps * s) × (o + q * s < s * p)

@@ -1,6 +1,7 @@
 -- A stage over sub-transforms that are done, whatever they are: w o k is place k of the sub-transform that begins at place o of the input. Assumes nothing.
-use mathlib.Core.Path.{_≡_, ap, _∙_, sym, fun-ext}
+use mathlib.Core.Path.{_≡_, ap, ap₂, _∙_, sym, fun-ext}
 use mathlib.Core.Bool.{Bool}
+use mathlib.Core.List.{List}
 use Prim.Native.Nat.{ℕ, zero, suc, _+_, _*_, _/_, _%_, _<_, _≤_}
 use native.Mathlib.Nat.{mul-le-mul-left, mul-comm, mul-suc, mod-lt}
 use native.Mathlib.Decide.{decLt}
@@ -11,8 +12,9 @@ use Rattle.butterflies.specs.Butterflies.{stage}
 use Rattle.butterflies.proofs.Columns.{Local}
 use Rattle.butterflies.proofs.Local.{local2, local3, local4}
 use Rattle.kf_work.specs.Work.{within}
-use Rattle.kf_work.specs.Packed.{packedColumn}
+use Rattle.kf_work.specs.Packed.{after, packedColumn, packedWork}
 use Rattle.kf_work.proofs.Spread.{within-lt, within-ge}
+use Rattle.kf_work.proofs.Plan.{Split}
 
 -- the sub-transforms of m places each, one after the other
 abbrev pub blocks : (ℕ → ℕ → Complex) → ℕ → ℕ → ℕ → ℕ → Complex
@@ -60,3 +62,14 @@ finish p m b loc h w f g g′ before after = fun-ext (λ k. elim (decLt k (p * m
         ∙ ap (λ (c : ℕ → Complex). c k) before
         ∙ within-ge (p * m) w f k l
         ∙ sym (within-ge (p * m) (stage p m b w) f k l)
+
+-- the transform by a plan, as one stage over the sub-transforms by the rest of it
+pub work-is : (u x : ℕ → Complex) (inverse : Bool) (ps : List ℕ) (p m : ℕ) (rest : List ℕ) (s o : ℕ) → Split ps p m rest
+    → packedWork u inverse x ps s o ≡ stage p m (packedColumn u inverse p m) (blocks (packedWork (after u p m) inverse x rest (s * p)) m s o)
+unfolding packedWork
+work-is u x inverse ps p m rest s o sp = ap (λ (l : List ℕ). packedWork u inverse x l s o) (sp .is)
+
+-- what a sub-transform makes, with its length and its table by other names
+pub sub-is : (u v x : ℕ → Complex) (inverse : Bool) (rest : List ℕ) (s o n m : ℕ) → n ≡ m → u ≡ v → (f g : ℕ → Complex)
+    → g ≡ within n (packedWork u inverse x rest s o) f → g ≡ within m (packedWork v inverse x rest s o) f
+sub-is u v x inverse rest s o n m e same f g done = done ∙ ap₂ (λ (k : ℕ) (t : ℕ → Complex). within k (packedWork t inverse x rest s o) f) e same

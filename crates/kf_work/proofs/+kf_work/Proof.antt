@@ -1,0 +1,605 @@
+-- `kf_work::kf_work` meets its contract. The measure is the plan's inner length. The loop's invariant: the first q sub-transforms are done; where
+-- the arms meet all are, and one stage over them is the transform. Assumes nothing.
+use mathlib.Core.Path.{_≡_, refl, sym, ap, _∙_}
+use mathlib.Core.Logic.{⊎-elim}
+use mathlib.Core.List.{List}
+use Prim.Native.Nat.{ℕ, _+_, _*_, _-_, _<_, _≤_}
+use native.Mathlib.Nat.{mul-comm}
+use native.Mathlib.Omega.{arith}
+use lib.ListN.{length, getD}
+use denote.Ref.{now}
+use borrow.Author.Needs.{needs}
+use borrow.Fn.Kinds.{In}
+use borrow.Fn.PlainCycle.{Measures, is, falls, and}
+use Rattle.complex.specs.declared.Complex.{Complex}
+use Rattle.complex.specs.Complex.{at}
+use Rattle.kf_work.specs.Work.{within, span}
+use Rattle.kf_work.specs.Packed.{after, packedColumn, packedWork}
+use Rattle.kf_work.proofs.Plan.{Split, Taken, rest-of, plan-cons, taken, inner-positive, whole, table-nums, sub-nums}
+use Rattle.kf_work.proofs.Spread.{within-zero}
+use Rattle.kf_work.proofs.Stages.{blocks, column-local, finish, work-is, sub-is}
+use Rattle.kf_work.proofs.Parts.{call-done, from-on, from-on-length, from-on-at}
+use Rattle.kf_work.proofs.Leaves.{leaves-done}
+use Rattle.kf_work.proofs.+kf_work.{statement}
+use Rattle.kf_work.proofs.+kf_work.Tie.{close}
+use Rattle.kf_work.proofs.kf_work.Reads as kf-work
+use Rattle.kf_work.proofs.kf_work.Kinds as kf-work-kinds
+use Rattle.kf_work.proofs.+kf_work.Lts-kf_work as kf-work-lts
+use Rattle.kf_work.proofs.kf_leaves.Reads as kf-leaves-reads
+use Rattle.kf_work.proofs.kf_bfly.Reads as kf-bfly-reads
+
+abbrev μ-kf-work : Measures 7 kf-work-kinds.ps ℕ
+μ-kf-work κs a = getD (now (a .1 .1 .1 .1 .1 .1 .0)) 1 0
+
+abbrev kf-work-at : ℕ → In 7 kf-work-kinds.ps
+kf-work-at t = and 7 kf-work-kinds.ps (is 7 kf-work-kinds.ps μ-kf-work t) kf-work.Pre
+
+abbrev kf-work-below : ℕ → In 7 kf-work-kinds.ps
+kf-work-below t = and 7 kf-work-kinds.ps (falls 7 kf-work-kinds.ps _<_ μ-kf-work t) kf-work.Pre
+
+abbrev kf-work-Inv-loop : kf-work-lts.InvT-loop
+kf-work-Inv-loop re₀ im₀ x y tr ti plan fstride from inverse p m k ur ui rest q₀ re im q =
+    (length re ≡ length re₀)
+    × (length im ≡ length im₀)
+    × (q ≤ p)
+    × (at re im ≡ within (q * m) (blocks (packedWork (after (at tr ti) p m) inverse (at x y) rest (fstride * p)) m fstride from) (at re₀ im₀))
+
+abbrev kf-work-μ-loop : kf-work-lts.MeasureT-loop
+kf-work-μ-loop re₀ im₀ x y tr ti plan fstride from inverse p m k ur ui rest q₀ re im q = p - q
+
+module _ (t : ℕ) (st : kf-work-lts.Start (kf-leaves-reads.Asked, kf-leaves-reads.Learnt, kf-work-below t, kf-work.Post, kf-bfly-reads.Asked, kf-bfly-reads.Learnt) (kf-work-at t) kf-work.Post kf-work-Inv-loop kf-work-μ-loop) where
+  abbrev ps : List ℕ
+  ps = st .args .plan .now
+
+  abbrev radix : ℕ
+  radix = getD ps 0 0
+
+  abbrev inner : ℕ
+  inner = getD ps 1 0
+
+  first : Split ps radix inner (rest-of ps)
+  first = plan-cons ps (st .pre .1 .0) (omega (arith, st .pre .1 .2))
+
+  lower : Taken ps radix (rest-of ps)
+  lower = taken ps (st .pre .1 .0) (st .pre .1 .1) (st .pre .1 .2)
+
+  -- the stage's twiddles are in both tables, and as many as the rest of the plan reads are left
+  here : (2 ≤ radix) × (radix ≤ 4) × (0 < inner) × (inner * (radix - 1) + inner ≡ span ps) × (inner * (radix - 1) ≤ length (st .args .tr .now)) × (inner * (radix - 1) ≤ length (st .args .ti .now)) × (2 < length ps)
+  here =
+      let n = table-nums _ _ _ _ first in
+      let h = inner-positive _ _ _ _ first in
+      (first .at-least, lower .low, h, n, omega (arith, n, h, st .pre .1 .6), omega (arith, n, h, st .pre .1 .7), st .pre .1 .2)
+
+  -- the tables that are lent on
+  rest-re : length (from-on (inner * (radix - 1)) (st .args .tr .now)) ≡ length (st .args .tr .now) - inner * (radix - 1)
+  rest-re = from-on-length (inner * (radix - 1)) (st .args .tr .now) (here .4)
+
+  rest-im : length (from-on (inner * (radix - 1)) (st .args .ti .now)) ≡ length (st .args .ti .now) - inner * (radix - 1)
+  rest-im = from-on-length (inner * (radix - 1)) (st .args .ti .now) (here .5)
+
+  lent-on : at (from-on (inner * (radix - 1)) (st .args .tr .now)) (from-on (inner * (radix - 1)) (st .args .ti .now)) ≡ after (at (st .args .tr .now) (st .args .ti .now)) radix inner
+  lent-on = from-on-at (inner * (radix - 1)) (st .args .tr .now) (st .args .ti .now)
+
+  sub : (q : ℕ) → q < radix → (q * inner + inner ≤ span ps) × (span (rest-of ps) * (st .args .fstride * radix) ≡ span ps * st .args .fstride) × (st .args .fstride * radix ≤ span ps * st .args .fstride) × (st .args .from + q * st .args .fstride < st .args .fstride * radix)
+  sub q l = sub-nums _ _ _ _ first (st .args .fstride) (st .args .from) q (st .pre .1 .3) l
+
+  -- the sub-transforms
+  abbrev below : ℕ → Complex
+  below = blocks (packedWork (after (at (st .args .tr .now) (st .args .ti .now)) radix inner) (st .args .inverse) (at (st .args .x .now) (st .args .y .now)) (rest-of ps) (st .args .fstride * radix)) inner (st .args .fstride) (st .args .from)
+
+-- where the arms meet the sub-transforms are done
+joined : (t : ℕ) (c : kf-work-lts.Joined1 (kf-leaves-reads.Asked, kf-leaves-reads.Learnt, kf-work-below t, kf-work.Post, kf-bfly-reads.Asked, kf-bfly-reads.Learnt) (kf-work-at t) kf-work.Post kf-work-Inv-loop kf-work-μ-loop)
+    → let st = c .before .before .before .before .before .before .before .before .before .before .before .before in
+    (length (c .if1 .re) ≡ length (st .args .re .now))
+    × (length (c .if1 .im) ≡ length (st .args .im .now))
+    × (at (c .if1 .re) (c .if1 .im) ≡ within (span (ps t st)) (below t st) (at (st .args .re .now) (st .args .im .now)))
+joined t c =
+    let st = c .before .before .before .before .before .before .before .before .before .before .before .before in
+    let all = whole _ _ _ _ (first t st) in
+    ⊎-elim
+    (λ w. rw (w .8, w .9) (
+      w .3 .kept .0,
+      w .3 .kept .1 .0,
+      leaves-done _ _ (at (st .args .x .now) (st .args .y .now)) (st .args .inverse) (rest-of (ps t st)) _ _ _ (st .args .fstride) (st .args .from) (lent-on t st) (w .0 .taken) (lower t st .rest-below .innermost (sym (first t st .inner) ∙ w .0 .taken)) all _ _ (w .3 .ensures),
+    ))
+    (λ w.
+    let past : w .2 .q ≡ radix t st = omega (arith, w .3 .left, w .2 .inv .2) in
+    rw (w .4, w .5) (
+      w .2 .inv .0,
+      w .2 .inv .1,
+      rw (past, all) at (w .2 .inv .3),
+    ))
+    (c .if1 .came)
+
+kf-work-shared-slice-read-p : (t : ℕ) → kf-work-lts.Need-shared-slice-read-p (
+  kf-leaves-reads.Asked,
+  kf-leaves-reads.Learnt,
+  kf-work-below t,
+  kf-work.Post,
+  kf-bfly-reads.Asked,
+  kf-bfly-reads.Learnt,
+) (kf-work-at t) kf-work.Post kf-work-Inv-loop kf-work-μ-loop
+kf-work-shared-slice-read-p t c = omega (arith, here t (c .before .before .before .before .before .before .before .before))
+
+kf-work-shared-slice-read-m : (t : ℕ) → kf-work-lts.Need-shared-slice-read-m (
+  kf-leaves-reads.Asked,
+  kf-leaves-reads.Learnt,
+  kf-work-below t,
+  kf-work.Post,
+  kf-bfly-reads.Asked,
+  kf-bfly-reads.Learnt,
+) (kf-work-at t) kf-work.Post kf-work-Inv-loop kf-work-μ-loop
+kf-work-shared-slice-read-m t c = omega (arith, here t (c .before .before .before .before .before .before .before .before .before))
+
+kf-work-sub-k : (t : ℕ) → kf-work-lts.Need-sub-k (
+  kf-leaves-reads.Asked,
+  kf-leaves-reads.Learnt,
+  kf-work-below t,
+  kf-work.Post,
+  kf-bfly-reads.Asked,
+  kf-bfly-reads.Learnt,
+) (kf-work-at t) kf-work.Post kf-work-Inv-loop kf-work-μ-loop
+kf-work-sub-k t c = omega (arith, here t (c .before .before .before .before .before .before .before .before .before))
+
+kf-work-mul-k : (t : ℕ) → kf-work-lts.Need-mul-k (
+  kf-leaves-reads.Asked,
+  kf-leaves-reads.Learnt,
+  kf-work-below t,
+  kf-work.Post,
+  kf-bfly-reads.Asked,
+  kf-bfly-reads.Learnt,
+) (kf-work-at t) kf-work.Post kf-work-Inv-loop kf-work-μ-loop
+kf-work-mul-k t c = omega (arith, here t (c .before .before .before .before .before .before .before .before .before), c .before .before .before .before .before .before .before .before .before .good .1 .1 .1 .1 .0)
+
+kf-work-mul-ur : (t : ℕ) → kf-work-lts.Need-mul-ur (
+  kf-leaves-reads.Asked,
+  kf-leaves-reads.Learnt,
+  kf-work-below t,
+  kf-work.Post,
+  kf-bfly-reads.Asked,
+  kf-bfly-reads.Learnt,
+) (kf-work-at t) kf-work.Post kf-work-Inv-loop kf-work-μ-loop
+kf-work-mul-ur t c = omega (arith, here t (c .before .before .before .before .before .before .before .before .before), c .before .before .before .before .before .before .before .before .before .good .1 .1 .1 .1 .0)
+
+kf-work-sub-ur : (t : ℕ) → kf-work-lts.Need-sub-ur (
+  kf-leaves-reads.Asked,
+  kf-leaves-reads.Learnt,
+  kf-work-below t,
+  kf-work.Post,
+  kf-bfly-reads.Asked,
+  kf-bfly-reads.Learnt,
+) (kf-work-at t) kf-work.Post kf-work-Inv-loop kf-work-μ-loop
+kf-work-sub-ur t c = omega (arith, here t (c .before .before .before .before .before .before .before .before .before), c .before .before .before .before .before .before .before .before .before .good .1 .1 .1 .1 .0)
+
+kf-work-part-ur-start : (t : ℕ) → kf-work-lts.Need-part-ur-start (
+  kf-leaves-reads.Asked,
+  kf-leaves-reads.Learnt,
+  kf-work-below t,
+  kf-work.Post,
+  kf-bfly-reads.Asked,
+  kf-bfly-reads.Learnt,
+) (kf-work-at t) kf-work.Post kf-work-Inv-loop kf-work-μ-loop
+kf-work-part-ur-start t c = omega (arith, here t (c .before .before .before .before .before .before .before .before .before))
+
+kf-work-part-ur-end : (t : ℕ) → kf-work-lts.Need-part-ur-end (
+  kf-leaves-reads.Asked,
+  kf-leaves-reads.Learnt,
+  kf-work-below t,
+  kf-work.Post,
+  kf-bfly-reads.Asked,
+  kf-bfly-reads.Learnt,
+) (kf-work-at t) kf-work.Post kf-work-Inv-loop kf-work-μ-loop
+kf-work-part-ur-end t c = search needs
+
+kf-work-mul-ui : (t : ℕ) → kf-work-lts.Need-mul-ui (
+  kf-leaves-reads.Asked,
+  kf-leaves-reads.Learnt,
+  kf-work-below t,
+  kf-work.Post,
+  kf-bfly-reads.Asked,
+  kf-bfly-reads.Learnt,
+) (kf-work-at t) kf-work.Post kf-work-Inv-loop kf-work-μ-loop
+kf-work-mul-ui t c = omega (arith, here t (c .before .before .before .before .before .before .before .before .before .before), c .before .before .before .before .before .before .before .before .before .before .good .1 .1 .1 .1 .0)
+
+kf-work-sub-ui : (t : ℕ) → kf-work-lts.Need-sub-ui (
+  kf-leaves-reads.Asked,
+  kf-leaves-reads.Learnt,
+  kf-work-below t,
+  kf-work.Post,
+  kf-bfly-reads.Asked,
+  kf-bfly-reads.Learnt,
+) (kf-work-at t) kf-work.Post kf-work-Inv-loop kf-work-μ-loop
+kf-work-sub-ui t c = omega (arith, here t (c .before .before .before .before .before .before .before .before .before .before), c .before .before .before .before .before .before .before .before .before .before .good .1 .1 .1 .1 .0)
+
+kf-work-part-ui-start : (t : ℕ) → kf-work-lts.Need-part-ui-start (
+  kf-leaves-reads.Asked,
+  kf-leaves-reads.Learnt,
+  kf-work-below t,
+  kf-work.Post,
+  kf-bfly-reads.Asked,
+  kf-bfly-reads.Learnt,
+) (kf-work-at t) kf-work.Post kf-work-Inv-loop kf-work-μ-loop
+kf-work-part-ui-start t c = omega (arith, here t (c .before .before .before .before .before .before .before .before .before .before))
+
+kf-work-part-ui-end : (t : ℕ) → kf-work-lts.Need-part-ui-end (
+  kf-leaves-reads.Asked,
+  kf-leaves-reads.Learnt,
+  kf-work-below t,
+  kf-work.Post,
+  kf-bfly-reads.Asked,
+  kf-bfly-reads.Learnt,
+) (kf-work-at t) kf-work.Post kf-work-Inv-loop kf-work-μ-loop
+kf-work-part-ui-end t c = search needs
+
+kf-work-kf-leaves-requires : (t : ℕ) → kf-work-lts.Need-kf-leaves-requires (
+  kf-leaves-reads.Asked,
+  kf-leaves-reads.Learnt,
+  kf-work-below t,
+  kf-work.Post,
+  kf-bfly-reads.Asked,
+  kf-bfly-reads.Learnt,
+) (kf-work-at t) kf-work.Post kf-work-Inv-loop kf-work-μ-loop
+kf-work-kf-leaves-requires t c κs =
+    let st = c .before .before .before .before .before .before .before .before .before .before .before .before .before .before in
+    let five = c .before .before .if1 .taken in
+    let h = here t st in
+    let n = sub t st 0 (omega (arith, h)) in
+    let inner-is = first t st .inner in
+    let e : 5 * (st .args .fstride * radix t st) ≡ span (ps t st) * st .args .fstride = ap (λ (k : ℕ). k * (st .args .fstride * radix t st)) (sym five ∙ inner-is) ∙ n .1 in
+    let all : radix t st * 5 ≡ span (ps t st) = ap (λ (k : ℕ). radix t st * k) (sym five) ∙ whole _ _ _ _ (first t st) in (
+      omega (arith, h),
+      st .pre .1 .3,
+      omega (arith, e, st .pre .1 .4),
+      omega (arith, e, st .pre .1 .5),
+      omega (arith, rest-re t st, h, five, st .pre .1 .6),
+      omega (arith, rest-im t st, h, five, st .pre .1 .7),
+      omega (arith, all, st .pre .1 .8),
+      omega (arith, all, st .pre .1 .9),
+    )
+
+kf-work-sub-rest : (t : ℕ) → kf-work-lts.Need-sub-rest (
+  kf-leaves-reads.Asked,
+  kf-leaves-reads.Learnt,
+  kf-work-below t,
+  kf-work.Post,
+  kf-bfly-reads.Asked,
+  kf-bfly-reads.Learnt,
+) (kf-work-at t) kf-work.Post kf-work-Inv-loop kf-work-μ-loop
+kf-work-sub-rest t c = omega (arith, here t (c .before .before .before .before .before .before .before .before .before .before .before .before))
+
+kf-work-part-rest-start : (t : ℕ) → kf-work-lts.Need-part-rest-start (
+  kf-leaves-reads.Asked,
+  kf-leaves-reads.Learnt,
+  kf-work-below t,
+  kf-work.Post,
+  kf-bfly-reads.Asked,
+  kf-bfly-reads.Learnt,
+) (kf-work-at t) kf-work.Post kf-work-Inv-loop kf-work-μ-loop
+kf-work-part-rest-start t c = omega (arith, here t (c .before .before .before .before .before .before .before .before .before .before .before .before))
+
+kf-work-part-rest-end : (t : ℕ) → kf-work-lts.Need-part-rest-end (
+  kf-leaves-reads.Asked,
+  kf-leaves-reads.Learnt,
+  kf-work-below t,
+  kf-work.Post,
+  kf-bfly-reads.Asked,
+  kf-bfly-reads.Learnt,
+) (kf-work-at t) kf-work.Post kf-work-Inv-loop kf-work-μ-loop
+kf-work-part-rest-end t c = search needs
+
+kf-work-loop-holds : (t : ℕ) → kf-work-lts.Need-loop-holds (
+  kf-leaves-reads.Asked,
+  kf-leaves-reads.Learnt,
+  kf-work-below t,
+  kf-work.Post,
+  kf-bfly-reads.Asked,
+  kf-bfly-reads.Learnt,
+) (kf-work-at t) kf-work.Post kf-work-Inv-loop kf-work-μ-loop
+kf-work-loop-holds t c = (refl, refl, omega arith, within-zero _ _ _)
+
+kf-work-mul-kf-work : (t : ℕ) → kf-work-lts.Need-mul-kf-work (
+  kf-leaves-reads.Asked,
+  kf-leaves-reads.Learnt,
+  kf-work-below t,
+  kf-work.Post,
+  kf-bfly-reads.Asked,
+  kf-bfly-reads.Learnt,
+) (kf-work-at t) kf-work.Post kf-work-Inv-loop kf-work-μ-loop
+kf-work-mul-kf-work t c = omega (arith, sub t (c .before .before .before .before .before .before .before .before .before .before .before .before .before .before .before) _ (c .loop-test .taken), c .before .loop .inv .0, c .before .loop .inv .1, c .before .before .before .before .before .before .before .before .before .before .before .before .before .before .before .pre .1, c .before .before .before .before .before .before .before .before .before .before .before .before .before .before .before .good .1 .1 .0)
+
+kf-work-mul-kf-work-2 : (t : ℕ) → kf-work-lts.Need-mul-kf-work-2 (
+  kf-leaves-reads.Asked,
+  kf-leaves-reads.Learnt,
+  kf-work-below t,
+  kf-work.Post,
+  kf-bfly-reads.Asked,
+  kf-bfly-reads.Learnt,
+) (kf-work-at t) kf-work.Post kf-work-Inv-loop kf-work-μ-loop
+kf-work-mul-kf-work-2 t c = omega (arith, sub t (c .before .before .before .before .before .before .before .before .before .before .before .before .before .before .before) _ (c .loop-test .taken), c .before .loop .inv .0, c .before .loop .inv .1, c .before .before .before .before .before .before .before .before .before .before .before .before .before .before .before .pre .1, c .before .before .before .before .before .before .before .before .before .before .before .before .before .before .before .good .1 .1 .0)
+
+kf-work-sub-kf-work : (t : ℕ) → kf-work-lts.Need-sub-kf-work (
+  kf-leaves-reads.Asked,
+  kf-leaves-reads.Learnt,
+  kf-work-below t,
+  kf-work.Post,
+  kf-bfly-reads.Asked,
+  kf-bfly-reads.Learnt,
+) (kf-work-at t) kf-work.Post kf-work-Inv-loop kf-work-μ-loop
+kf-work-sub-kf-work t c = omega (arith, sub t (c .before .before .before .before .before .before .before .before .before .before .before .before .before .before .before) _ (c .loop-test .taken), c .before .loop .inv .0, c .before .loop .inv .1, c .before .before .before .before .before .before .before .before .before .before .before .before .before .before .before .pre .1, c .before .before .before .before .before .before .before .before .before .before .before .before .before .before .before .good .1 .1 .0)
+
+kf-work-part-kf-work-start : (t : ℕ) → kf-work-lts.Need-part-kf-work-start (
+  kf-leaves-reads.Asked,
+  kf-leaves-reads.Learnt,
+  kf-work-below t,
+  kf-work.Post,
+  kf-bfly-reads.Asked,
+  kf-bfly-reads.Learnt,
+) (kf-work-at t) kf-work.Post kf-work-Inv-loop kf-work-μ-loop
+kf-work-part-kf-work-start t c = omega (arith, sub t (c .before .before .before .before .before .before .before .before .before .before .before .before .before .before .before) _ (c .loop-test .taken), c .before .loop .inv .0, c .before .loop .inv .1, c .before .before .before .before .before .before .before .before .before .before .before .before .before .before .before .pre .1, c .before .before .before .before .before .before .before .before .before .before .before .before .before .before .before .good .1 .1 .0)
+
+kf-work-part-kf-work-end : (t : ℕ) → kf-work-lts.Need-part-kf-work-end (
+  kf-leaves-reads.Asked,
+  kf-leaves-reads.Learnt,
+  kf-work-below t,
+  kf-work.Post,
+  kf-bfly-reads.Asked,
+  kf-bfly-reads.Learnt,
+) (kf-work-at t) kf-work.Post kf-work-Inv-loop kf-work-μ-loop
+kf-work-part-kf-work-end t c = search needs
+
+kf-work-mul-kf-work-3 : (t : ℕ) → kf-work-lts.Need-mul-kf-work-3 (
+  kf-leaves-reads.Asked,
+  kf-leaves-reads.Learnt,
+  kf-work-below t,
+  kf-work.Post,
+  kf-bfly-reads.Asked,
+  kf-bfly-reads.Learnt,
+) (kf-work-at t) kf-work.Post kf-work-Inv-loop kf-work-μ-loop
+kf-work-mul-kf-work-3 t c = omega (arith, sub t (c .before .before .before .before .before .before .before .before .before .before .before .before .before .before .before .before) _ (c .before .loop-test .taken), c .before .before .loop .inv .0, c .before .before .loop .inv .1, c .before .before .before .before .before .before .before .before .before .before .before .before .before .before .before .before .pre .1, c .before .before .before .before .before .before .before .before .before .before .before .before .before .before .before .before .good .1 .1 .0)
+
+kf-work-mul-kf-work-4 : (t : ℕ) → kf-work-lts.Need-mul-kf-work-4 (
+  kf-leaves-reads.Asked,
+  kf-leaves-reads.Learnt,
+  kf-work-below t,
+  kf-work.Post,
+  kf-bfly-reads.Asked,
+  kf-bfly-reads.Learnt,
+) (kf-work-at t) kf-work.Post kf-work-Inv-loop kf-work-μ-loop
+kf-work-mul-kf-work-4 t c = omega (arith, sub t (c .before .before .before .before .before .before .before .before .before .before .before .before .before .before .before .before) _ (c .before .loop-test .taken), c .before .before .loop .inv .0, c .before .before .loop .inv .1, c .before .before .before .before .before .before .before .before .before .before .before .before .before .before .before .before .pre .1, c .before .before .before .before .before .before .before .before .before .before .before .before .before .before .before .before .good .1 .1 .0)
+
+kf-work-sub-kf-work-2 : (t : ℕ) → kf-work-lts.Need-sub-kf-work-2 (
+  kf-leaves-reads.Asked,
+  kf-leaves-reads.Learnt,
+  kf-work-below t,
+  kf-work.Post,
+  kf-bfly-reads.Asked,
+  kf-bfly-reads.Learnt,
+) (kf-work-at t) kf-work.Post kf-work-Inv-loop kf-work-μ-loop
+kf-work-sub-kf-work-2 t c = omega (arith, sub t (c .before .before .before .before .before .before .before .before .before .before .before .before .before .before .before .before) _ (c .before .loop-test .taken), c .before .before .loop .inv .0, c .before .before .loop .inv .1, c .before .before .before .before .before .before .before .before .before .before .before .before .before .before .before .before .pre .1, c .before .before .before .before .before .before .before .before .before .before .before .before .before .before .before .before .good .1 .1 .0)
+
+kf-work-part-kf-work-start-2 : (t : ℕ) → kf-work-lts.Need-part-kf-work-start-2 (
+  kf-leaves-reads.Asked,
+  kf-leaves-reads.Learnt,
+  kf-work-below t,
+  kf-work.Post,
+  kf-bfly-reads.Asked,
+  kf-bfly-reads.Learnt,
+) (kf-work-at t) kf-work.Post kf-work-Inv-loop kf-work-μ-loop
+kf-work-part-kf-work-start-2 t c = omega (arith, sub t (c .before .before .before .before .before .before .before .before .before .before .before .before .before .before .before .before) _ (c .before .loop-test .taken), c .before .before .loop .inv .0, c .before .before .loop .inv .1, c .before .before .before .before .before .before .before .before .before .before .before .before .before .before .before .before .pre .1, c .before .before .before .before .before .before .before .before .before .before .before .before .before .before .before .before .good .1 .1 .0)
+
+kf-work-part-kf-work-end-2 : (t : ℕ) → kf-work-lts.Need-part-kf-work-end-2 (
+  kf-leaves-reads.Asked,
+  kf-leaves-reads.Learnt,
+  kf-work-below t,
+  kf-work.Post,
+  kf-bfly-reads.Asked,
+  kf-bfly-reads.Learnt,
+) (kf-work-at t) kf-work.Post kf-work-Inv-loop kf-work-μ-loop
+kf-work-part-kf-work-end-2 t c = search needs
+
+kf-work-mul-kf-work-5 : (t : ℕ) → kf-work-lts.Need-mul-kf-work-5 (
+  kf-leaves-reads.Asked,
+  kf-leaves-reads.Learnt,
+  kf-work-below t,
+  kf-work.Post,
+  kf-bfly-reads.Asked,
+  kf-bfly-reads.Learnt,
+) (kf-work-at t) kf-work.Post kf-work-Inv-loop kf-work-μ-loop
+kf-work-mul-kf-work-5 t c = omega (arith, sub t (c .before .before .before .before .before .before .before .before .before .before .before .before .before .before .before .before .before) _ (c .before .before .loop-test .taken), c .before .before .before .loop .inv .0, c .before .before .before .loop .inv .1, c .before .before .before .before .before .before .before .before .before .before .before .before .before .before .before .before .before .pre .1, c .before .before .before .before .before .before .before .before .before .before .before .before .before .before .before .before .before .good .1 .1 .0)
+
+kf-work-mul-kf-work-6 : (t : ℕ) → kf-work-lts.Need-mul-kf-work-6 (
+  kf-leaves-reads.Asked,
+  kf-leaves-reads.Learnt,
+  kf-work-below t,
+  kf-work.Post,
+  kf-bfly-reads.Asked,
+  kf-bfly-reads.Learnt,
+) (kf-work-at t) kf-work.Post kf-work-Inv-loop kf-work-μ-loop
+kf-work-mul-kf-work-6 t c = omega (arith, sub t (c .before .before .before .before .before .before .before .before .before .before .before .before .before .before .before .before .before) _ (c .before .before .loop-test .taken), c .before .before .before .loop .inv .0, c .before .before .before .loop .inv .1, c .before .before .before .before .before .before .before .before .before .before .before .before .before .before .before .before .before .pre .1, c .before .before .before .before .before .before .before .before .before .before .before .before .before .before .before .before .before .good .1 .1 .0)
+
+kf-work-add-kf-work : (t : ℕ) → kf-work-lts.Need-add-kf-work (
+  kf-leaves-reads.Asked,
+  kf-leaves-reads.Learnt,
+  kf-work-below t,
+  kf-work.Post,
+  kf-bfly-reads.Asked,
+  kf-bfly-reads.Learnt,
+) (kf-work-at t) kf-work.Post kf-work-Inv-loop kf-work-μ-loop
+kf-work-add-kf-work t c = omega (arith, sub t (c .before .before .before .before .before .before .before .before .before .before .before .before .before .before .before .before .before) _ (c .before .before .loop-test .taken), c .before .before .before .loop .inv .0, c .before .before .before .loop .inv .1, c .before .before .before .before .before .before .before .before .before .before .before .before .before .before .before .before .before .pre .1, c .before .before .before .before .before .before .before .before .before .before .before .before .before .before .before .before .before .good .1 .1 .0)
+
+kf-work-kf-work-requires : (t : ℕ) → kf-work-lts.Need-kf-work-requires (
+  kf-leaves-reads.Asked,
+  kf-leaves-reads.Learnt,
+  kf-work-below t,
+  kf-work.Post,
+  kf-bfly-reads.Asked,
+  kf-bfly-reads.Learnt,
+) (kf-work-at t) kf-work.Post kf-work-Inv-loop kf-work-μ-loop
+kf-work-kf-work-requires t c κs =
+    let st = c .before .before .before .before .before .before .before .before .before .before .before .before .before .before .before .before .before in
+    let lp = c .before .before .before .loop in
+    let h = here t st in
+    let n = sub t st (lp .q) (c .before .before .loop-test .taken) in
+    let inner-is = first t st .inner in
+    let more = lower t st .rest-below .others (λ e. c .before .before .before .before .before .if1 .left (inner-is ∙ e)) in (
+      omega (arith, more .1, inner-is, st .pre .0),
+      (
+        first t st .left,
+        lower t st .rest-fives,
+        more .0,
+        n .3,
+        omega (arith, n .1, st .pre .1 .4),
+        omega (arith, n .1, st .pre .1 .5),
+        omega (arith, rest-re t st, h, inner-is, st .pre .1 .6),
+        omega (arith, rest-im t st, h, inner-is, st .pre .1 .7),
+        omega (arith, n .0, inner-is, st .pre .1 .8, lp .inv .0, c .before .kf-work-arg .given .2),
+        omega (arith, n .0, inner-is, st .pre .1 .9, lp .inv .1, c .kf-work-arg2 .given .2),
+      ),
+    )
+
+kf-work-add-q : (t : ℕ) → kf-work-lts.Need-add-q (
+  kf-leaves-reads.Asked,
+  kf-leaves-reads.Learnt,
+  kf-work-below t,
+  kf-work.Post,
+  kf-bfly-reads.Asked,
+  kf-bfly-reads.Learnt,
+) (kf-work-at t) kf-work.Post kf-work-Inv-loop kf-work-μ-loop
+kf-work-add-q t c = omega (arith, c .before .before .before .before .before .before .before .loop-test .taken, here t (c .before .before .before .before .before .before .before .before .before .before .before .before .before .before .before .before .before .before .before .before .before .before))
+
+kf-work-loop-less : (t : ℕ) → kf-work-lts.Need-loop-less (
+  kf-leaves-reads.Asked,
+  kf-leaves-reads.Learnt,
+  kf-work-below t,
+  kf-work.Post,
+  kf-bfly-reads.Asked,
+  kf-bfly-reads.Learnt,
+) (kf-work-at t) kf-work.Post kf-work-Inv-loop kf-work-μ-loop
+kf-work-loop-less t c = omega (arith, c .before .before .before .before .before .before .before .loop-test .taken)
+
+kf-work-loop-again : (t : ℕ) → kf-work-lts.Need-loop-again (
+  kf-leaves-reads.Asked,
+  kf-leaves-reads.Learnt,
+  kf-work-below t,
+  kf-work.Post,
+  kf-bfly-reads.Asked,
+  kf-bfly-reads.Learnt,
+) (kf-work-at t) kf-work.Post kf-work-Inv-loop kf-work-μ-loop
+kf-work-loop-again t c =
+    let st = c .before .before .before .before .before .before .before .before .before .before .before .before .before .before .before .before .before .before .before .before .before .before in
+    let a = st .args in
+    let lp = c .before .before .before .before .before .before .before .before .loop in
+    let n = sub t st (lp .q) (c .before .before .before .before .before .before .before .loop-test .taken) in (
+      c .before .before .before .re2 .given .1 ∙ lp .inv .0,
+      c .before .im2 .given .1 ∙ lp .inv .1,
+      omega (arith, c .before .before .before .before .before .before .before .loop-test .taken),
+      call-done (packedWork (after (at (a .tr .now) (a .ti .now)) (radix t st) (inner t st)) (a .inverse) (at (a .x .now) (a .y .now)) (rest-of (ps t st)) (a .fstride * radix t st)) (inner t st) (a .fstride) (a .from) (lp .q) (here t st .2) _
+          (lp .re) (lp .im) (c .before .before .before .before .kf-work .last .0) (c .before .before .before .before .kf-work .last .1 .0) (omega (arith, n .0, st .pre .1 .8, lp .inv .0)) (omega (arith, n .0, st .pre .1 .9, lp .inv .1)) (lp .inv .3)
+          (sub-is _ _ (at (a .x .now) (a .y .now)) (a .inverse) (rest-of (ps t st)) _ _ _ _ (sym (first t st .inner)) (lent-on t st) _ _ (c .before .before .before .before .kf-work .ensures)),
+    )
+
+kf-work-kf-bfly-requires : (t : ℕ) → kf-work-lts.Need-kf-bfly-requires (
+  kf-leaves-reads.Asked,
+  kf-leaves-reads.Learnt,
+  kf-work-below t,
+  kf-work.Post,
+  kf-bfly-reads.Asked,
+  kf-bfly-reads.Learnt,
+) (kf-work-at t) kf-work.Post kf-work-Inv-loop kf-work-μ-loop
+kf-work-kf-bfly-requires t c κs =
+    let st = c .before .before .before .before .before .before .before .before .before .before .before .before .before .before in
+    let h = here t st in
+    let j = joined t (c .before .before) in
+    let all = whole _ _ _ _ (first t st) in
+    let block : inner t st * radix t st ≡ span (ps t st) = mul-comm (inner t st) (radix t st) ∙ all in
+    (h .0, h .1, h .2, omega (arith, block, st .pre .1 .6), omega (arith, block, st .pre .1 .7), omega (arith, block, st .pre .1 .8, j .0), omega (arith, block, st .pre .1 .9, j .1))
+
+kf-work-same-length : (t : ℕ) → kf-work-lts.Need-same-length (
+  kf-leaves-reads.Asked,
+  kf-leaves-reads.Learnt,
+  kf-work-below t,
+  kf-work.Post,
+  kf-bfly-reads.Asked,
+  kf-bfly-reads.Learnt,
+) (kf-work-at t) kf-work.Post kf-work-Inv-loop kf-work-μ-loop
+kf-work-same-length t c = c .before .before .before .before .kf-bfly .kept .0 ∙ joined t (c .before .before .before .before .before .before .before) .0
+
+kf-work-same-length-2 : (t : ℕ) → kf-work-lts.Need-same-length-2 (
+  kf-leaves-reads.Asked,
+  kf-leaves-reads.Learnt,
+  kf-work-below t,
+  kf-work.Post,
+  kf-bfly-reads.Asked,
+  kf-bfly-reads.Learnt,
+) (kf-work-at t) kf-work.Post kf-work-Inv-loop kf-work-μ-loop
+kf-work-same-length-2 t c = c .before .before .before .before .kf-bfly .kept .1 .0 ∙ joined t (c .before .before .before .before .before .before .before) .1
+
+kf-work-returns : (t : ℕ) → kf-work-lts.Need-returns (
+  kf-leaves-reads.Asked,
+  kf-leaves-reads.Learnt,
+  kf-work-below t,
+  kf-work.Post,
+  kf-bfly-reads.Asked,
+  kf-bfly-reads.Learnt,
+) (kf-work-at t) kf-work.Post kf-work-Inv-loop kf-work-μ-loop
+kf-work-returns t c =
+    let st = c .before .before .before .before .before .before .before .before .before .before .before .before .before .before .before .before .before .before .before in
+    let a = st .args in
+    let u = at (a .tr .now) (a .ti .now) in
+    let all = whole _ _ _ _ (first t st) in
+    let h = here t st in
+    let before = rw (← all) at (joined t (c .before .before .before .before .before .before .before) .2) in
+    rw (work-is u (at (a .x .now) (a .y .now)) (a .inverse) (ps t st) _ _ _ (a .fstride) (a .from) (first t st), ← all)
+    (finish (radix t st) (inner t st) (packedColumn u (a .inverse) (radix t st) (inner t st)) (column-local u (a .inverse) (radix t st) (inner t st) (h .0) (h .1)) (h .2) (below t st) _ _ _ before (c .before .before .before .before .kf-bfly .ensures))
+
+pub +kf-work-spec : {M : Type 1} → statement M
++kf-work-spec = close μ-kf-work λ t. kf-work-lts.spec (
+  kf-leaves-reads.Asked,
+  kf-leaves-reads.Learnt,
+  kf-work-below t,
+  kf-work.Post,
+  kf-bfly-reads.Asked,
+  kf-bfly-reads.Learnt,
+)
+    (kf-work-at t)
+    kf-work.Post
+    kf-work-Inv-loop
+    kf-work-μ-loop
+    (kf-work-shared-slice-read-p t)
+    (kf-work-shared-slice-read-m t)
+    (kf-work-sub-k t)
+    (kf-work-mul-k t)
+    (kf-work-mul-ur t)
+    (kf-work-sub-ur t)
+    (kf-work-part-ur-start t)
+    (kf-work-part-ur-end t)
+    (kf-work-mul-ui t)
+    (kf-work-sub-ui t)
+    (kf-work-part-ui-start t)
+    (kf-work-part-ui-end t)
+    (kf-work-kf-leaves-requires t)
+    (kf-work-sub-rest t)
+    (kf-work-part-rest-start t)
+    (kf-work-part-rest-end t)
+    (kf-work-loop-holds t)
+    (kf-work-mul-kf-work t)
+    (kf-work-mul-kf-work-2 t)
+    (kf-work-sub-kf-work t)
+    (kf-work-part-kf-work-start t)
+    (kf-work-part-kf-work-end t)
+    (kf-work-mul-kf-work-3 t)
+    (kf-work-mul-kf-work-4 t)
+    (kf-work-sub-kf-work-2 t)
+    (kf-work-part-kf-work-start-2 t)
+    (kf-work-part-kf-work-end-2 t)
+    (kf-work-mul-kf-work-5 t)
+    (kf-work-mul-kf-work-6 t)
+    (kf-work-add-kf-work t)
+    (kf-work-kf-work-requires t)
+    (kf-work-add-q t)
+    (kf-work-loop-less t)
+    (kf-work-loop-again t)
+    (kf-work-kf-bfly-requires t)
+    (kf-work-same-length t)
+    (kf-work-same-length-2 t)
+    (kf-work-returns t)
