@@ -1,17 +1,6 @@
 // The DCT-IV of each length with its tables and work areas: a function for each length, so that those of one are on the stack at a time.
 // Written by tools/tables.
 use crate::by;
-use twiddles::dct_10;
-use twiddles::dct_20;
-use twiddles::dct_30;
-use twiddles::dct_40;
-use twiddles::dct_60;
-use twiddles::dct_80;
-use twiddles::dct_90;
-use twiddles::dct_120;
-use twiddles::dct_160;
-use twiddles::dct_180;
-use twiddles::dct_240;
 use fft_tables::fft_10;
 use fft_tables::fft_20;
 use fft_tables::fft_30;
@@ -34,6 +23,17 @@ use fft_tables::plan_120;
 use fft_tables::plan_160;
 use fft_tables::plan_180;
 use fft_tables::plan_240;
+use twiddles::dct_10;
+use twiddles::dct_20;
+use twiddles::dct_30;
+use twiddles::dct_40;
+use twiddles::dct_60;
+use twiddles::dct_80;
+use twiddles::dct_90;
+use twiddles::dct_120;
+use twiddles::dct_160;
+use twiddles::dct_180;
+use twiddles::dct_240;
 ghost use mathlib.Core.Path.{_≡_};
 ghost use lib.Dec.{T};
 ghost use lib.ListN.{length, replicate};
