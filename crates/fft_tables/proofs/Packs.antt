@@ -109,7 +109,7 @@ module _ (n : ℕ) (s : T (among fftSizes n)) where
 
   read-length : length (read n) ≡ n - 1
   unfolding read
-  read-length = omega (arith, length-append (order (plan n) 1) (n / 3 ∷ []), ordered)
+  read-length = length-append (order (plan n) 1) _ ∙ omega (arith, ordered)
 
   no-turn : getD (fftRe n) 0 nan ≡ one32
   unfolding fftRe
@@ -142,13 +142,13 @@ module _ (n : ℕ) (s : T (among fftSizes n)) where
 
         in-order : (k : ℕ) → k < length (order (plan n) 1) → at (packedRe n) (packedImOf inverse n) k ≡ twiddle n inverse (getD (order (plan n) 1) k 0)
         in-order k l =
-            places k (omega (arith, read-length, ordered)) ∙ ap (twiddle n inverse) (List·getD-append (order (plan n) 1) (n / 3 ∷ []) 0 k l)
+            places k (omega (arith, read-length, ordered)) ∙ ap (twiddle n inverse) (List·getD-append (order (plan n) 1) _ 0 k l)
 
         third : (k : ℕ) → 3 * k ≡ n → at (packedRe n) (packedImOf inverse n) (span (plan n) - 2) ≡ twiddle n inverse k
         third k e =
             let last : length (order (plan n) 1) ≡ span (plan n) - 2 = omega (arith, ordered, plan-is .whole) in
             places (span (plan n) - 2) (omega (arith, read-length, ordered, last))
-            ∙ ap (twiddle n inverse) (getD-at (order (plan n) 1) (n / 3) [] 0 (span (plan n) - 2) last ∙ ap (λ (x : ℕ). x / 3) (sym e) ∙ mul-div-cancel-left k (omega arith))
+            ∙ ap (twiddle n inverse) (getD-at (order (plan n) 1) _ [] 0 (span (plan n) - 2) last ∙ ap (λ (x : ℕ). x / 3) (sym e) ∙ mul-div-cancel-left k (omega arith))
 
   re-length : length (packedRe n) ≡ n - 1
   unfolding packedRe
