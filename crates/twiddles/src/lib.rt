@@ -1,4 +1,4 @@
-// The twiddles of the FFT and of the DCT-IV, and the gains.
+// The twiddles of the DCT-IV, and the gains. The definitions have the FFT's twiddles too; what a transform reads of them is in fft_tables.
 // New: src/common/kissfft.rs, src/common/dct_iv.rs and the two modified_dct.rs of lc3-codec 0.2.0 compute these values, and a run of them gave
 // these tables.
 ghost use mathlib.Core.Path.{_≡_};
