@@ -31,6 +31,7 @@ use Rattle.twiddles.specs.Twiddles.{start, fftRe, fftIm, fftImOf, twiddle}
 use Rattle.twiddles.proofs.Sizes.{same-sizes, sized, Halved, halved}
 use Rattle.fft_tables.specs.FftTables.{order, read, packedRe, packedIm, packedImOf, packedTable, packedDirected}
 
+-- a plan with its first radix and inner length written out
 split : (p m : ℕ) (ps : List ℕ) → T (planned (p ∷ m ∷ ps)) → Split (p ∷ m ∷ ps) p m ps
 split p m ps h = subst (λ (l : List ℕ). Split (p ∷ m ∷ ps) p m l) (take-all (length (p ∷ m ∷ ps) - 2) ps (omega arith)) (plan-cons (p ∷ m ∷ ps) h (omega arith))
 
@@ -59,11 +60,14 @@ module _ (t : ℕ → Complex) (n : ℕ) (still : parts one32 (t 0 .i) ≡ t 0) 
       sp : Split (p ∷ m ∷ r ∷ ps) p m (r ∷ ps)
       sp = split p m (r ∷ ps) h
 
+      turns : ℕ → ℕ
+      turns k = suc (k / m) * (k % m * s)
+
       stage : List ℕ
-      stage = tab (m * (p - 1)) (λ k. suc (k / m) * (k % m * s))
+      stage = tab (m * (p - 1)) turns
 
       stage-length : length stage ≡ m * (p - 1)
-      stage-length = length-tab (m * (p - 1)) (λ k. suc (k / m) * (k % m * s))
+      stage-length = length-tab (m * (p - 1)) turns
 
       inner-stages : List ℕ
       inner-stages = order (r ∷ ps) (s * p)
@@ -73,7 +77,7 @@ module _ (t : ℕ → Complex) (n : ℕ) (still : parts one32 (t 0 .i) ≡ t 0) 
           let part : suc q ≤ p - 1 = omega arith in
           let inside : j + m * q < m * (p - 1) = omega (arith, mul-le-mul-left m part, mul-suc m q) in
           o (j + m * q) (omega (arith, length-append stage inner-stages, stage-length))
-          ∙ ap t (List·getD-append stage inner-stages 0 (j + m * q) (omega (arith, stage-length)) ∙ getD-tab (m * (p - 1)) (λ k. suc (k / m) * (k % m * s)) 0 (j + m * q) inside)
+          ∙ ap t (List·getD-append stage inner-stages 0 (j + m * q) (omega (arith, stage-length)) ∙ getD-tab (m * (p - 1)) turns 0 (j + m * q) inside)
           ∙ rw (col-of m j q l, part-of m j q l)
 
       a-third : p ≡ 3 → u (3 * m - 2) ≡ t (s * m)
