@@ -1,6 +1,28 @@
 // The DCT-IV of each length with its tables and work areas: a function for each length, so that those of one are on the stack at a time.
 // Written by tools/tables.
 use crate::by;
+use fft_tables::fft_10;
+use fft_tables::fft_20;
+use fft_tables::fft_30;
+use fft_tables::fft_40;
+use fft_tables::fft_60;
+use fft_tables::fft_80;
+use fft_tables::fft_90;
+use fft_tables::fft_120;
+use fft_tables::fft_160;
+use fft_tables::fft_180;
+use fft_tables::fft_240;
+use fft_tables::plan_10;
+use fft_tables::plan_20;
+use fft_tables::plan_30;
+use fft_tables::plan_40;
+use fft_tables::plan_60;
+use fft_tables::plan_80;
+use fft_tables::plan_90;
+use fft_tables::plan_120;
+use fft_tables::plan_160;
+use fft_tables::plan_180;
+use fft_tables::plan_240;
 use twiddles::dct_10;
 use twiddles::dct_20;
 use twiddles::dct_30;
@@ -12,17 +34,6 @@ use twiddles::dct_120;
 use twiddles::dct_160;
 use twiddles::dct_180;
 use twiddles::dct_240;
-use twiddles::fft_10;
-use twiddles::fft_20;
-use twiddles::fft_30;
-use twiddles::fft_40;
-use twiddles::fft_60;
-use twiddles::fft_80;
-use twiddles::fft_90;
-use twiddles::fft_120;
-use twiddles::fft_160;
-use twiddles::fft_180;
-use twiddles::fft_240;
 ghost use mathlib.Core.Path.{_≡_};
 ghost use lib.Dec.{T};
 ghost use lib.ListN.{length, replicate};
@@ -46,6 +57,7 @@ pub fn by_10(buf: &mut [f32])
         10,
         &dct_10(),
         &fft_10(),
+        &plan_10(),
         &mut zeros_10(),
         &mut zeros_10(),
         &mut zeros_10(),
@@ -69,6 +81,7 @@ pub fn by_20(buf: &mut [f32])
         20,
         &dct_20(),
         &fft_20(),
+        &plan_20(),
         &mut zeros_20(),
         &mut zeros_20(),
         &mut zeros_20(),
@@ -92,6 +105,7 @@ pub fn by_30(buf: &mut [f32])
         30,
         &dct_30(),
         &fft_30(),
+        &plan_30(),
         &mut zeros_30(),
         &mut zeros_30(),
         &mut zeros_30(),
@@ -115,6 +129,7 @@ pub fn by_40(buf: &mut [f32])
         40,
         &dct_40(),
         &fft_40(),
+        &plan_40(),
         &mut zeros_40(),
         &mut zeros_40(),
         &mut zeros_40(),
@@ -138,6 +153,7 @@ pub fn by_60(buf: &mut [f32])
         60,
         &dct_60(),
         &fft_60(),
+        &plan_60(),
         &mut zeros_60(),
         &mut zeros_60(),
         &mut zeros_60(),
@@ -161,6 +177,7 @@ pub fn by_80(buf: &mut [f32])
         80,
         &dct_80(),
         &fft_80(),
+        &plan_80(),
         &mut zeros_80(),
         &mut zeros_80(),
         &mut zeros_80(),
@@ -184,6 +201,7 @@ pub fn by_90(buf: &mut [f32])
         90,
         &dct_90(),
         &fft_90(),
+        &plan_90(),
         &mut zeros_90(),
         &mut zeros_90(),
         &mut zeros_90(),
@@ -207,6 +225,7 @@ pub fn by_120(buf: &mut [f32])
         120,
         &dct_120(),
         &fft_120(),
+        &plan_120(),
         &mut zeros_120(),
         &mut zeros_120(),
         &mut zeros_120(),
@@ -230,6 +249,7 @@ pub fn by_160(buf: &mut [f32])
         160,
         &dct_160(),
         &fft_160(),
+        &plan_160(),
         &mut zeros_160(),
         &mut zeros_160(),
         &mut zeros_160(),
@@ -253,6 +273,7 @@ pub fn by_180(buf: &mut [f32])
         180,
         &dct_180(),
         &fft_180(),
+        &plan_180(),
         &mut zeros_180(),
         &mut zeros_180(),
         &mut zeros_180(),
@@ -276,6 +297,7 @@ pub fn by_240(buf: &mut [f32])
         240,
         &dct_240(),
         &fft_240(),
+        &plan_240(),
         &mut zeros_240(),
         &mut zeros_240(),
         &mut zeros_240(),

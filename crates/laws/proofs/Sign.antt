@@ -1,10 +1,12 @@
--- Rounding's symmetry in the sign: a product's sign goes through, bit for bit. And what a NaN does to the operations. Assumes nothing.
+-- Rounding's symmetry in the sign: a product's sign goes through, bit for bit. And what a NaN does to the operations, and to a list read past its end. Assumes nothing.
 use Prim.Native.Nat.{ℕ, zero, suc, _+_, _*_, _^_}
 use mathlib.Core.Path.{_≡_, refl, sym, ap, _∙_}
 use mathlib.Core.Bool.{Bool, true, false, not, cond}
+use mathlib.Core.List.{List, map}
 use lib.Dec.{ltb, eqb}
 use lib.Ieee.{Float, nan, inf, fin, Format, binary32, prec, emax, low, unlike, up, down, odd, units, round, neg, add, mul, ofBits}
 use lib.IntN.{pos}
+use lib.ListN.{getD, List·getD-map}
 
 odd-neg : (d : ℕ) (q k l : ℕ) → odd d true q k l ≡ neg (odd d false q k l)
 unfolding odd neg
@@ -59,6 +61,9 @@ mul-neg f (fin s m e) (fin t n d) = ap (λ (u : Bool). round f u (m * up e * (n 
 pub neg-nan : neg nan ≡ nan
 unfolding neg
 neg-nan = refl
+
+pub getD-negs : (l : List Float) (k : ℕ) → getD (map neg l) k nan ≡ neg (getD l k nan)
+getD-negs l k = ap (λ (d : Float). getD (map neg l) k d) (sym neg-nan) ∙ List·getD-map neg l k nan
 
 pub mul-nan : (f : Format) (y : Float) → mul f nan y ≡ nan
 unfolding mul

@@ -57,17 +57,6 @@ use Rattle.windows.proofs.w_n40_2p5ms
 use Rattle.windows.proofs.w_n60_2p5ms
 use Rattle.windows.proofs.w_n80_2p5ms
 use Rattle.windows.proofs.w_n120_2p5ms
-use Rattle.twiddles.proofs.fft_10
-use Rattle.twiddles.proofs.fft_20
-use Rattle.twiddles.proofs.fft_30
-use Rattle.twiddles.proofs.fft_40
-use Rattle.twiddles.proofs.fft_60
-use Rattle.twiddles.proofs.fft_80
-use Rattle.twiddles.proofs.fft_90
-use Rattle.twiddles.proofs.fft_120
-use Rattle.twiddles.proofs.fft_160
-use Rattle.twiddles.proofs.fft_180
-use Rattle.twiddles.proofs.fft_240
 use Rattle.twiddles.proofs.dct_10
 use Rattle.twiddles.proofs.dct_20
 use Rattle.twiddles.proofs.dct_30
@@ -85,6 +74,28 @@ use Rattle.columns.proofs.two
 use Rattle.columns.proofs.three
 use Rattle.columns.proofs.four
 use Rattle.columns.proofs.five
+use Rattle.fft_tables.proofs.fft_10
+use Rattle.fft_tables.proofs.fft_20
+use Rattle.fft_tables.proofs.fft_30
+use Rattle.fft_tables.proofs.fft_40
+use Rattle.fft_tables.proofs.fft_60
+use Rattle.fft_tables.proofs.fft_80
+use Rattle.fft_tables.proofs.fft_90
+use Rattle.fft_tables.proofs.fft_120
+use Rattle.fft_tables.proofs.fft_160
+use Rattle.fft_tables.proofs.fft_180
+use Rattle.fft_tables.proofs.fft_240
+use Rattle.fft_tables.proofs.plan_10
+use Rattle.fft_tables.proofs.plan_20
+use Rattle.fft_tables.proofs.plan_30
+use Rattle.fft_tables.proofs.plan_40
+use Rattle.fft_tables.proofs.plan_60
+use Rattle.fft_tables.proofs.plan_80
+use Rattle.fft_tables.proofs.plan_90
+use Rattle.fft_tables.proofs.plan_120
+use Rattle.fft_tables.proofs.plan_160
+use Rattle.fft_tables.proofs.plan_180
+use Rattle.fft_tables.proofs.plan_240
 use Rattle.kissfft.proofs.fft
 use Rattle.dct_iv.proofs.dct_iv
 use Rattle.analysis_steps.proofs.silence_300
@@ -218,17 +229,6 @@ pub record Entries (w : World) : Type 1 where
   pub w-n80-2p5ms : Entry w w_n80_2p5ms.ended w_n80_2p5ms.clauses
   pub w-n120-2p5ms : Entry w w_n120_2p5ms.ended w_n120_2p5ms.clauses
   -- twiddles
-  pub fft-10 : Entry w fft_10.ended fft_10.clauses
-  pub fft-20 : Entry w fft_20.ended fft_20.clauses
-  pub fft-30 : Entry w fft_30.ended fft_30.clauses
-  pub fft-40 : Entry w fft_40.ended fft_40.clauses
-  pub fft-60 : Entry w fft_60.ended fft_60.clauses
-  pub fft-80 : Entry w fft_80.ended fft_80.clauses
-  pub fft-90 : Entry w fft_90.ended fft_90.clauses
-  pub fft-120 : Entry w fft_120.ended fft_120.clauses
-  pub fft-160 : Entry w fft_160.ended fft_160.clauses
-  pub fft-180 : Entry w fft_180.ended fft_180.clauses
-  pub fft-240 : Entry w fft_240.ended fft_240.clauses
   pub dct-10 : Entry w dct_10.ended dct_10.clauses
   pub dct-20 : Entry w dct_20.ended dct_20.clauses
   pub dct-30 : Entry w dct_30.ended dct_30.clauses
@@ -247,6 +247,29 @@ pub record Entries (w : World) : Type 1 where
   pub three : Entry w three.ended three.clauses
   pub four : Entry w four.ended four.clauses
   pub five : Entry w five.ended five.clauses
+  -- fft_tables
+  pub fft-10 : Entry w fft_10.ended fft_10.clauses
+  pub fft-20 : Entry w fft_20.ended fft_20.clauses
+  pub fft-30 : Entry w fft_30.ended fft_30.clauses
+  pub fft-40 : Entry w fft_40.ended fft_40.clauses
+  pub fft-60 : Entry w fft_60.ended fft_60.clauses
+  pub fft-80 : Entry w fft_80.ended fft_80.clauses
+  pub fft-90 : Entry w fft_90.ended fft_90.clauses
+  pub fft-120 : Entry w fft_120.ended fft_120.clauses
+  pub fft-160 : Entry w fft_160.ended fft_160.clauses
+  pub fft-180 : Entry w fft_180.ended fft_180.clauses
+  pub fft-240 : Entry w fft_240.ended fft_240.clauses
+  pub plan-10 : Entry w plan_10.ended plan_10.clauses
+  pub plan-20 : Entry w plan_20.ended plan_20.clauses
+  pub plan-30 : Entry w plan_30.ended plan_30.clauses
+  pub plan-40 : Entry w plan_40.ended plan_40.clauses
+  pub plan-60 : Entry w plan_60.ended plan_60.clauses
+  pub plan-80 : Entry w plan_80.ended plan_80.clauses
+  pub plan-90 : Entry w plan_90.ended plan_90.clauses
+  pub plan-120 : Entry w plan_120.ended plan_120.clauses
+  pub plan-160 : Entry w plan_160.ended plan_160.clauses
+  pub plan-180 : Entry w plan_180.ended plan_180.clauses
+  pub plan-240 : Entry w plan_240.ended plan_240.clauses
   -- kissfft
   pub fft : Entry w fft.ended fft.clauses
   -- dct_iv

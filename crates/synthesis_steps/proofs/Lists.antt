@@ -1,20 +1,18 @@
--- Lists by their places: read backwards, two together, negated, in two parts; and what a loop that writes every place leaves. Assumes nothing.
+-- Lists by their places: read backwards, two together, in two parts; and what a loop that writes every place leaves. Assumes nothing.
 use mathlib.Core.Path.{_≡_, refl, sym, ap, ap₂, _∙_}
 use mathlib.Core.Bool.{Bool, true, false}
 use mathlib.Core.Logic.{⊎-elim, inl, inr, _⊎_}
-use mathlib.Core.List.{List, [], _∷_, _++_, map, reverse, reverse-cons, zipWith}
+use mathlib.Core.List.{List, [], _∷_, _++_, reverse, reverse-cons, zipWith}
 use Prim.Native.Nat.{ℕ, zero, suc, _+_, _-_, _≤_, _<_}
 use native.Mathlib.Nat.{not-suc-le-zero, le-of-suc-le-suc}
 use native.Mathlib.Omega.{arith}
 use lib.Dec.{ltb}
-use lib.ListN.{length, getD, take, drop, length-drop, length-reverse, List·getD-append, List·getD-map}
+use lib.ListN.{length, getD, take, drop, length-drop, length-reverse, List·getD-append}
 use lib.Seq.{getD-append-add, getD-take, getD-drop, length-take-le, take-at, drop-at, take-add, drop-drop}
-use lib.Ieee.{Float, nan, neg}
 use borrow.Rule.Slice.PartMut.{midOf, putMid}
 use borrow.Author.Tests.{ltb-true, ltb-false}
 use Rattle.laws.proofs.Lists.{is-tab, Filled, filled-all}
 use Rattle.laws.proofs.Parts.{mid-tail, put-tail}
-use Rattle.laws.proofs.Sign.{neg-nan}
 
 -- before a place, or not
 pub lt-or-ge : (k n : ℕ) → (k < n) ⊎ (n ≤ k)
@@ -64,9 +62,6 @@ length-zipWith f (x ∷ xs) [] e = absurd (none (length xs) e)
     none : (n : ℕ) → suc n ≡ 0 → ⊥
     none n e = omega arith
 length-zipWith f (x ∷ xs) (y ∷ ys) e = ap suc (length-zipWith f xs ys (omega arith))
-
-pub getD-negs : (l : List Float) (k : ℕ) → getD (map neg l) k nan ≡ neg (getD l k nan)
-getD-negs l k = ap (λ (d : Float). getD (map neg l) k d) (sym neg-nan) ∙ List·getD-map neg l k nan
 
 -- a loop over every place has made the list whose places are f's
 pub filled-is : {A : Type 0} {f : ℕ → A} {l : List A} {i : ℕ} {out : List A} (d : A) (r : List A) → Filled f l i out → i ≡ length l → length r ≡ length l → ((k : ℕ) → k < length l → getD r k d ≡ f k) → out ≡ r

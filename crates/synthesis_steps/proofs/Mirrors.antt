@@ -8,10 +8,10 @@ use native.Mathlib.Omega.{arith}
 use lib.ListN.{length, getD, take, drop, length-append, length-drop, length-reverse, length-map, List·getD-append}
 use lib.Seq.{getD-drop, getD-take, length-take-le, ext-getD}
 use lib.Ieee.{Float, nan, binary32, neg, mul}
-use Rattle.laws.proofs.Sign.{neg-neg, mul-neg}
+use Rattle.laws.proofs.Sign.{neg-neg, mul-neg, getD-negs}
 use Rattle.synthesis_steps.specs.Places.{mirrored, unfolded, scaled, Mirrors}
 use Rattle.synthesis_steps.specs.Halves.{Halves}
-use Rattle.synthesis_steps.proofs.Lists.{lt-or-ge, getD-second, getD-reverse, getD-negs}
+use Rattle.synthesis_steps.proofs.Lists.{lt-or-ge, getD-second, getD-reverse}
 use Rattle.synthesis_steps.proofs.Places.{getD-scaled, length-scaled}
 
 -- h is nf / 2, b the values

@@ -1,23 +1,22 @@
 -- The sizes of the twiddles are the FFT sizes of the configurations, and each table has as many entries as its size: computed tests over the
 -- sizes, and a law at each. Assumes nothing.
-use mathlib.Core.Path.{_≡_, refl, sym, ap, ap₂, _∙_}
-use mathlib.Core.Bool.{Bool, true, false, _&&_}
-use mathlib.Core.List.{List, _++_, map}
+use mathlib.Core.Path.{_≡_, sym, ap, ap₂, _∙_}
+use mathlib.Core.Bool.{Bool, _&&_}
+use mathlib.Core.List.{List, _++_}
 use Prim.Native.Nat.{ℕ, _+_, _-_}
 use lib.Dec.{T, eqb, eqb→eq}
 use lib.ListN.{length, take, drop, length-append}
 use lib.Seq.{take-append-seam, drop-append-seam}
-use lib.Ieee.{Float, neg}
+use lib.Ieee.{Float}
 use lib.Ieee.Fits.{and-l, and-r}
 use borrow.Rule.Slice.PartMut.{midOf}
-use Rattle.laws.proofs.Lists.{length-map}
 use Rattle.laws.proofs.Parts.{mid-tail}
 use Rattle.laws.proofs.Table.{every}
 use Rattle.config.specs.Tables.{rows}
 use Rattle.config.specs.Config.{row, half, among, fftSizes}
 use Rattle.config.proofs.Among.{at-among, same-among}
 use Rattle.twiddles.specs.Tables.{sizes, fftReBits, fftImBits, dctReBits, dctImBits}
-use Rattle.twiddles.specs.Twiddles.{start, fftRe, fftIm, fftImOf, fftTable, directed, dctRe, dctIm, dctTable}
+use Rattle.twiddles.specs.Twiddles.{start, fftRe, fftIm, dctRe, dctIm, dctTable}
 
 ours : T (every (λ k n. among sizes n) 0 fftSizes)
 unfolding sizes fftSizes half row rows
@@ -64,36 +63,14 @@ pub record Halved (n : ℕ) (re im t : List Float) : Type 0 where
   pub im-fits : length (midOf n (length t - n) t) ≡ n
   pub fits : length t ≡ n + n
 
-halved : (n : ℕ) (re im t : List Float) → t ≡ re ++ im → length re ≡ n → length im ≡ n → Halved n re im t
+pub halved : (n : ℕ) (re im t : List Float) → t ≡ re ++ im → length re ≡ n → length im ≡ n → Halved n re im t
 halved n re im t e l m =
     let r : take n t ≡ re = ap₂ take (sym l) e ∙ take-append-seam re im in
     let i : midOf n (length t - n) t ≡ im = mid-tail n t ∙ ap₂ drop (sym l) e ∙ drop-append-seam re im in
     record { re-is = r; im-is = i; re-fits = ap length r ∙ l; im-fits = ap length i ∙ m; fits = ap length e ∙ length-append re im ∙ ap₂ _+_ l m }
-
-pub directed-halves : (n : ℕ) → T (among fftSizes n) → (inverse : Bool) (t : List Float) → t ≡ directed inverse n → Halved n (fftRe n) (fftImOf inverse n) t
-unfolding directed fftImOf
-directed-halves n s inverse t e = halved n (fftRe n) (fftImOf inverse n) t e (tables .fft-re) (im inverse)
-  where
-    tables : Sized n
-    tables = sized n (rw (same-sizes n) at s)
-
-    im : (inverse : Bool) → length (fftImOf inverse n) ≡ n
-    im false = tables .fft-im
-    im true = length-map neg (fftIm n) ∙ tables .fft-im
-
-pub forward-is : (n : ℕ) → fftTable n ≡ directed false n
-unfolding fftTable directed fftImOf
-forward-is n = refl
 
 pub dct-halves : (n : ℕ) → T (among fftSizes n) → (t : List Float) → t ≡ dctTable n → Halved n (dctRe n) (dctIm n) t
 unfolding dctTable
 dct-halves n s t e =
     let tables = sized n (rw (same-sizes n) at s) in
     halved n (dctRe n) (dctIm n) t e (tables .dct-re) (tables .dct-im)
-
--- the forward table with its imaginary parts negated is the inverse's
-pub inverted : (n : ℕ) → T (among fftSizes n) → (t : List Float) → t ≡ fftTable n → take n t ++ map neg (drop n t) ≡ directed true n
-unfolding fftTable directed fftImOf
-inverted n s t e =
-    let tables = sized n (rw (same-sizes n) at s) in
-    ap₂ (λ (a b : List Float). a ++ map neg b) (ap₂ take (sym (tables .fft-re)) e ∙ take-append-seam (fftRe n) (fftIm n)) (ap₂ drop (sym (tables .fft-re)) e ∙ drop-append-seam (fftRe n) (fftIm n))

@@ -29,18 +29,10 @@ fftRe n = part fftReBits n
 unfoldable pub fftIm : ℕ → List Float
 fftIm n = part fftImBits n
 
--- the table of size n as the code has it: the real parts, then the imaginary parts
-unfoldable pub fftTable : ℕ → List Float
-fftTable n = fftRe n ++ fftIm n
-
 -- "The inverse table negates each imaginary part."
 unfoldable pub fftImOf : Bool → ℕ → List Float
 fftImOf false n = fftIm n
 fftImOf true n = map neg (fftIm n)
-
--- the table of size n as the direction has it
-unfoldable pub directed : Bool → ℕ → List Float
-directed inverse n = fftRe n ++ fftImOf inverse n
 
 -- FFT twiddle k of n, forward or inverse
 unfoldable pub twiddle : ℕ → Bool → ℕ → Complex

@@ -1,11 +1,10 @@
-// The twiddles of the FFT and of the DCT-IV, and the gains.
+// The twiddles of the DCT-IV, and the gains. The definitions have the FFT's twiddles too; what a transform reads of them is in fft_tables.
 // New: src/common/kissfft.rs, src/common/dct_iv.rs and the two modified_dct.rs of lc3-codec 0.2.0 compute these values, and a run of them gave
 // these tables.
 ghost use mathlib.Core.Path.{_≡_};
 ghost use mathlib.Core.List.{map};
 ghost use lib.Ieee.{neg};
 
-mod fft; // fft.rt: the FFT's twiddles
 mod dct; // dct.rt: the DCT's twiddles
 mod gains; // gains.rt: the gains
 
@@ -20,17 +19,6 @@ pub use dct::dct_120;
 pub use dct::dct_160;
 pub use dct::dct_180;
 pub use dct::dct_240;
-pub use fft::fft_10;
-pub use fft::fft_20;
-pub use fft::fft_30;
-pub use fft::fft_40;
-pub use fft::fft_60;
-pub use fft::fft_80;
-pub use fft::fft_90;
-pub use fft::fft_120;
-pub use fft::fft_160;
-pub use fft::fft_180;
-pub use fft::fft_240;
 pub use gains::gain;
 
 // Entry. Every number gets the other sign: what the inverse FFT does to its imaginary parts.
