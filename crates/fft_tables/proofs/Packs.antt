@@ -21,10 +21,10 @@ use Rattle.complex.specs.declared.Complex.{Complex}
 use Rattle.complex.specs.Complex.{parts, at}
 use Rattle.quads.specs.Beside.{one32, beside}
 use Rattle.quads.proofs.Rows.{col-of, part-of}
-use Rattle.kf_work.specs.Work.{plan, span, planned}
+use Rattle.kf_work.specs.Work.{plan, span, planned, spectrum}
 use Rattle.kf_work.specs.Sized.{Sized}
-use Rattle.kf_work.specs.Packed.{after, Packed}
-use Rattle.kf_work.proofs.Plan.{Split, split, plan-cons, whole, inner-positive}
+use Rattle.kf_work.specs.Packed.{after, packedSpectrum, Packed}
+use Rattle.kf_work.proofs.Plan.{Split, split, span-positive, plan-cons, whole, inner-positive}
 use Rattle.kf_work.proofs.Sizes as plans
 use Rattle.twiddles.specs.Tables.{sizes, fftReBits}
 use Rattle.twiddles.specs.Twiddles.{start, fftRe, fftIm, fftImOf, twiddle}
@@ -149,6 +149,16 @@ module _ (n : ℕ) (s : T (among fftSizes n)) where
             let last : length (order (plan n) 1) ≡ span (plan n) - 2 = omega (arith, ordered, plan-is .whole) in
             places (span (plan n) - 2) (omega (arith, read-length, ordered, last))
             ∙ ap (twiddle n inverse) (getD-at (order (plan n) 1) _ [] 0 (span (plan n) - 2) last ∙ ap (λ (x : ℕ). x / 3) (sym e) ∙ mul-div-cancel-left k (omega arith))
+
+    -- so the transform that reads it is the transform with the twiddles of n
+    pub packed-spectrum : (tr ti : List Float) (x : ℕ → Complex) → tr ≡ packedRe n → ti ≡ packedImOf inverse n
+        → packedSpectrum (at tr ti) inverse n x ≡ spectrum (twiddle n inverse) inverse n x
+    packed-spectrum tr ti x er ei =
+        (λ j. packedSpectrum (at (er j) (ei j)) inverse n x) ∙ plans.unpacked n s (twiddle n inverse) (at (packedRe n) (packedImOf inverse n)) x inverse packs
+
+  -- a size is 1 at least
+  pub some-size : 0 < n
+  some-size = let plan-is = plans.sized n s in omega (arith, span-positive (plan n) (plan-is .plan-radixes), plan-is .whole)
 
   re-length : length (packedRe n) ≡ n - 1
   unfolding packedRe

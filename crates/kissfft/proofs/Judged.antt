@@ -1,6 +1,5 @@
--- The refusals of the FFT: each return of `judge` is the definition's verdict, and what acceptance says of the slices; the table of its size, in two
--- parts. Assumes nothing.
-use mathlib.Core.Path.{_≡_, sym, ap, _∙_, subst}
+-- The refusals of the FFT: each return of `judge` is the definition's verdict, and what acceptance says of the slices. Assumes nothing.
+use mathlib.Core.Path.{_≡_, sym, ap, _∙_}
 use mathlib.Core.Bool.{Bool, true, false, _&&_, _||_}
 use mathlib.Core.List.{List, [], _∷_}
 use Prim.Native.Nat.{ℕ, _<_, _≤_}
@@ -11,14 +10,13 @@ use lib.ListN.{length, take, drop}
 use borrow.Author.Tests.{eq-eqb, ne-eqb, lt-ltb, le-ltb}
 use Rattle.laws.proofs.Table.{every}
 use Rattle.laws.proofs.Arms.{Outside}
-use Rattle.complex.specs.declared.Complex.{Complex}
 use Rattle.complex.specs.Complex.{at}
 use Rattle.config.specs.declared.Verdict.{Verdict}
 use Rattle.config.specs.Tables.{rows}
 use Rattle.config.specs.Config.{row, half, among, fftSizes}
 use Rattle.config.proofs.Among.{last-among}
 use Rattle.config.proofs.Verdicts.{passed, both-are}
-use Rattle.twiddles.specs.Twiddles.{fftRe, fftImOf, twiddle}
+use Rattle.twiddles.specs.Twiddles.{twiddle}
 use Rattle.kf_work.specs.Work.{spectrum, reals, imaginaries}
 use Rattle.kissfft.specs.Fft.{firstBad, number, verdict, left, answer}
 
@@ -98,13 +96,3 @@ module _ (size : ℕ) (inverse : Bool) (x y re im : List Float) (v : Verdict) (e
   accepted z re′ im′ n h =
       rw (eq-eqb (number size x y (length re) (length im)) 0 (is ∙ z), ← n)
       (λ j. left (rw (← n) at e j) (h .0 j) (h .1 j))
-
-is-twiddle : (n : ℕ) (inverse : Bool) (tr ti : List Float) → tr ≡ fftRe n → ti ≡ fftImOf inverse n → at tr ti ≡ twiddle n inverse
-unfolding twiddle
-is-twiddle n inverse tr ti er ei = λ j k. at (er j) (ei j) k
-
-pub with-tables : (n : ℕ) (inverse : Bool) (tr ti re im : List Float) (x : ℕ → Complex) → tr ≡ fftRe n → ti ≡ fftImOf inverse n
-    → (re ≡ reals n (spectrum (at tr ti) inverse n x)) × (im ≡ imaginaries n (spectrum (at tr ti) inverse n x))
-    → (re ≡ reals n (spectrum (twiddle n inverse) inverse n x)) × (im ≡ imaginaries n (spectrum (twiddle n inverse) inverse n x))
-with-tables n inverse tr ti re im x er ei h =
-    subst (λ (t : ℕ → Complex). (re ≡ reals n (spectrum t inverse n x)) × (im ≡ imaginaries n (spectrum t inverse n x))) (is-twiddle n inverse tr ti er ei) h

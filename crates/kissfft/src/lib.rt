@@ -9,22 +9,34 @@ ghost use lib.Ieee.{neg};
 ghost use lib.ListN.{length, take, drop};
 ghost use Rattle.complex.specs.Complex.{at};
 ghost use Rattle.config.specs.Config.{among, fftSizes};
-ghost use Rattle.twiddles.specs.Twiddles.{fftTable, directed, twiddle};
-ghost use Rattle.kf_work.specs.Work.{spectrum, reals, imaginaries};
+ghost use Rattle.twiddles.specs.Twiddles.{twiddle};
+ghost use Rattle.fft_tables.specs.FftTables.{packedTable, packedDirected};
+ghost use Rattle.kf_work.specs.Work.{plan, spectrum, reals, imaginaries};
 ghost use Rattle.kissfft.specs.Fft.{firstBad, verdict, left, answer};
 use config::Verdict;
+use fft_tables::fft_10;
+use fft_tables::fft_20;
+use fft_tables::fft_30;
+use fft_tables::fft_40;
+use fft_tables::fft_60;
+use fft_tables::fft_80;
+use fft_tables::fft_90;
+use fft_tables::fft_120;
+use fft_tables::fft_160;
+use fft_tables::fft_180;
+use fft_tables::fft_240;
+use fft_tables::plan_10;
+use fft_tables::plan_20;
+use fft_tables::plan_30;
+use fft_tables::plan_40;
+use fft_tables::plan_60;
+use fft_tables::plan_80;
+use fft_tables::plan_90;
+use fft_tables::plan_120;
+use fft_tables::plan_160;
+use fft_tables::plan_180;
+use fft_tables::plan_240;
 use kf_work::transform;
-use twiddles::fft_10;
-use twiddles::fft_20;
-use twiddles::fft_30;
-use twiddles::fft_40;
-use twiddles::fft_60;
-use twiddles::fft_80;
-use twiddles::fft_90;
-use twiddles::fft_120;
-use twiddles::fft_160;
-use twiddles::fft_180;
-use twiddles::fft_240;
 use twiddles::negate;
 
 // The lowest place where a part does not pass 6, or the length.
@@ -83,13 +95,21 @@ fn judge(size: usize, x: &[f32], y: &[f32], c: usize, d: usize) -> Verdict
     }
 }
 
-// The transform with the table of its direction: the real parts, then the imaginary parts.
-fn turn(re: &mut [f32], im: &mut [f32], x: &[f32], y: &[f32], t: &[f32], inverse: bool)
-    requires { ⌜ T (among fftSizes (length (now x))) × (length (now y) ≡ length (now x)) × (length (now re) ≡ length (now x)) × (length (now im) ≡ length (now x)) × (now t ≡ directed inverse (length (now x))) ⌝ }
+// The transform with the plan of its size and the table of its direction: the real parts, then the imaginary parts.
+fn turn(
+    re: &mut [f32],
+    im: &mut [f32],
+    x: &[f32],
+    y: &[f32],
+    t: &[f32],
+    factors: &[usize],
+    inverse: bool,
+)
+    requires { ⌜ T (among fftSizes (length (now x))) × (length (now y) ≡ length (now x)) × (length (now re) ≡ length (now x)) × (length (now im) ≡ length (now x)) × (now t ≡ packedDirected inverse (length (now x))) × (now factors ≡ plan (length (now x))) ⌝ }
     ensures { λ _. ⌜ (now (re .exit) ≡ reals (length (now (x .entry))) (spectrum (twiddle (length (now (x .entry))) inverse) inverse (length (now (x .entry))) (at (now (x .entry)) (now (y .entry))))) × (now (im .exit) ≡ imaginaries (length (now (x .entry))) (spectrum (twiddle (length (now (x .entry))) inverse) inverse (length (now (x .entry))) (at (now (x .entry)) (now (y .entry))))) ⌝ }
 {
-    let c = x.len();
-    transform(re, im, x, y, &t[..c], &t[c..], inverse);
+    let c = x.len() - 1;
+    transform(re, im, x, y, &t[..c], &t[c..], factors, inverse);
 }
 
 // A table of c real parts with its imaginary parts negated.
@@ -101,33 +121,41 @@ fn invert(t: &mut [f32], c: usize)
 }
 
 // The transform with the forward table of its size, which the inverse inverts first.
-fn directed(re: &mut [f32], im: &mut [f32], x: &[f32], y: &[f32], t: &mut [f32], inverse: bool)
-    requires { ⌜ T (among fftSizes (length (now x))) × (length (now y) ≡ length (now x)) × (length (now re) ≡ length (now x)) × (length (now im) ≡ length (now x)) × (now t ≡ fftTable (length (now x))) ⌝ }
-    ensures { λ _. ⌜ (now (re .exit) ≡ reals (length (now (x .entry))) (spectrum (twiddle (length (now (x .entry))) inverse) inverse (length (now (x .entry))) (at (now (x .entry)) (now (y .entry))))) × (now (im .exit) ≡ imaginaries (length (now (x .entry))) (spectrum (twiddle (length (now (x .entry))) inverse) inverse (length (now (x .entry))) (at (now (x .entry)) (now (y .entry))))) × (now (t .exit) ≡ directed inverse (length (now (x .entry)))) ⌝ }
+fn directed(
+    re: &mut [f32],
+    im: &mut [f32],
+    x: &[f32],
+    y: &[f32],
+    t: &mut [f32],
+    factors: &[usize],
+    inverse: bool,
+)
+    requires { ⌜ T (among fftSizes (length (now x))) × (length (now y) ≡ length (now x)) × (length (now re) ≡ length (now x)) × (length (now im) ≡ length (now x)) × (now t ≡ packedTable (length (now x))) × (now factors ≡ plan (length (now x))) ⌝ }
+    ensures { λ _. ⌜ (now (re .exit) ≡ reals (length (now (x .entry))) (spectrum (twiddle (length (now (x .entry))) inverse) inverse (length (now (x .entry))) (at (now (x .entry)) (now (y .entry))))) × (now (im .exit) ≡ imaginaries (length (now (x .entry))) (spectrum (twiddle (length (now (x .entry))) inverse) inverse (length (now (x .entry))) (at (now (x .entry)) (now (y .entry))))) × (now (t .exit) ≡ packedDirected inverse (length (now (x .entry)))) ⌝ }
 {
     if inverse {
-        invert(t, x.len());
+        invert(t, x.len() - 1);
     }
-    turn(re, im, x, y, t, inverse);
+    turn(re, im, x, y, t, factors, inverse);
 }
 
-// The transform with the table of its size.
+// The transform with the table and the plan of its size.
 fn run(re: &mut [f32], im: &mut [f32], x: &[f32], y: &[f32], inverse: bool)
     requires { ⌜ T (among fftSizes (length (now x))) × (length (now y) ≡ length (now x)) × (length (now re) ≡ length (now x)) × (length (now im) ≡ length (now x)) ⌝ }
     ensures { λ _. ⌜ (now (re .exit) ≡ reals (length (now (x .entry))) (spectrum (twiddle (length (now (x .entry))) inverse) inverse (length (now (x .entry))) (at (now (x .entry)) (now (y .entry))))) × (now (im .exit) ≡ imaginaries (length (now (x .entry))) (spectrum (twiddle (length (now (x .entry))) inverse) inverse (length (now (x .entry))) (at (now (x .entry)) (now (y .entry))))) ⌝ }
 {
     match x.len() {
-        10 => directed(re, im, x, y, &mut fft_10(), inverse),
-        20 => directed(re, im, x, y, &mut fft_20(), inverse),
-        30 => directed(re, im, x, y, &mut fft_30(), inverse),
-        40 => directed(re, im, x, y, &mut fft_40(), inverse),
-        60 => directed(re, im, x, y, &mut fft_60(), inverse),
-        80 => directed(re, im, x, y, &mut fft_80(), inverse),
-        90 => directed(re, im, x, y, &mut fft_90(), inverse),
-        120 => directed(re, im, x, y, &mut fft_120(), inverse),
-        160 => directed(re, im, x, y, &mut fft_160(), inverse),
-        180 => directed(re, im, x, y, &mut fft_180(), inverse),
-        _ => directed(re, im, x, y, &mut fft_240(), inverse),
+        10 => directed(re, im, x, y, &mut fft_10(), &plan_10(), inverse),
+        20 => directed(re, im, x, y, &mut fft_20(), &plan_20(), inverse),
+        30 => directed(re, im, x, y, &mut fft_30(), &plan_30(), inverse),
+        40 => directed(re, im, x, y, &mut fft_40(), &plan_40(), inverse),
+        60 => directed(re, im, x, y, &mut fft_60(), &plan_60(), inverse),
+        80 => directed(re, im, x, y, &mut fft_80(), &plan_80(), inverse),
+        90 => directed(re, im, x, y, &mut fft_90(), &plan_90(), inverse),
+        120 => directed(re, im, x, y, &mut fft_120(), &plan_120(), inverse),
+        160 => directed(re, im, x, y, &mut fft_160(), &plan_160(), inverse),
+        180 => directed(re, im, x, y, &mut fft_180(), &plan_180(), inverse),
+        _ => directed(re, im, x, y, &mut fft_240(), &plan_240(), inverse),
     }
 }
 
