@@ -1,6 +1,6 @@
 -- The loop over the columns of a block, for any radix and any number of columns at a time. Its invariant is `Done`: the columns below i are turned, the others
 -- are not. Assumes nothing.
-use mathlib.Core.Path.{_≡_, refl, sym, ap, _∙_}
+use mathlib.Core.Path.{_≡_, refl, sym, ap, _∙_, fun-ext}
 use Prim.Native.Nat.{ℕ, _+_, _*_, _/_, _%_, _-_, _<_, _≤_}
 use native.Mathlib.Nat.{not-suc-le-zero, mod-lt, div-lt-iff-lt-mul}
 use native.Mathlib.Decide.{decLt}
@@ -62,3 +62,10 @@ module _ (p m : ℕ) (b : ℕ → (ℕ → Complex) → ℕ → Complex) where
           outside ge =
               let past : p * m ≤ k = omega arith in
               rw (le-ltb k (p * m) past) (rows-off n m g i o v h p k (λ c q l b e s. ge (div-lt-iff-lt-mul pos .0 (rw s (th .into q b)))) ∙ d k .1 (omega arith))
+
+  -- four columns and one are all of five
+  pub done-five : Local → (o : ℕ → ℕ) → Through p o → (f g h : ℕ → Complex) → m ≡ 5
+      → g ≡ rows 4 m f 0 o (λ c. b (0 + c) (λ q. f (0 + c + m * q))) p → h ≡ rows 1 m g 4 o (λ c. b (4 + c) (λ q. g (4 + c + m * q))) p → h ≡ stage p m b f
+  done-five loc o th f g h five quad one =
+      let whole : Done f h 5 = done-more loc o th 1 f g h 4 (omega arith) (done-more loc o th 4 f f g 0 (omega arith) (done-none f) quad) one in
+      fun-ext (done-all f h (omega arith) (rw (← five) at whole))

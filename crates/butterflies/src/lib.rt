@@ -62,6 +62,25 @@ pub fn kf_bfly4(re: &mut [f32], im: &mut [f32], tr: &[f32], ti: &[f32], m: usize
     }
 }
 
+// Inner. Radix 2 where parts have five places, as above the innermost stage: four columns and one, without a loop.
+pub fn fives2(re: &mut [f32], im: &mut [f32], tr: &[f32], ti: &[f32])
+    requires { ⌜ (5 ≤ length (now tr)) × (5 ≤ length (now ti)) × (10 ≤ length (now re)) × (10 ≤ length (now im)) ⌝ }
+    ensures { λ _. ⌜ at (now (re .exit)) (now (im .exit)) ≡ stage 2 5 (beside2 (at (now (tr .entry)) (now (ti .entry))) 5) (at (now (re .entry)) (now (im .entry))) ⌝ }
+{
+    quad2(re, im, tr, ti, 5, 0);
+    turn2(re, im, tr, ti, 5, 4);
+}
+
+// Inner. Radix 3 where parts have five places.
+pub fn fives3(re: &mut [f32], im: &mut [f32], tr: &[f32], ti: &[f32])
+    requires { ⌜ (14 ≤ length (now tr)) × (14 ≤ length (now ti)) × (15 ≤ length (now re)) × (15 ≤ length (now im)) ⌝ }
+    ensures { λ _. ⌜ at (now (re .exit)) (now (im .exit)) ≡ stage 3 5 (beside3 (at (now (tr .entry)) (now (ti .entry)) 13) (at (now (tr .entry)) (now (ti .entry))) 5) (at (now (re .entry)) (now (im .entry))) ⌝ }
+{
+    let y = get(tr, ti, 13);
+    quad3(re, im, tr, ti, 5, 0, y);
+    turn3(re, im, tr, ti, 5, 4, y);
+}
+
 // The five numbers turned, all but the first times no turn, (1, zero): it changes the signs of zeros.
 fn turned5(c: Out5, zero: f32, ya: Complex, yb: Complex) -> Out5
     ensures { λ r. ⌜ r ≡ of5 (five ya yb (twistBy (λ q. parts one32 zero) (col (c .a ∷ c .b ∷ c .c ∷ c .d ∷ c .e ∷ [])))) ⌝ }

@@ -11,6 +11,8 @@ ghost use Rattle.butterflies.specs.Butterflies.{stage};
 ghost use Rattle.config.specs.Config.{among, fftSizes};
 ghost use Rattle.kf_work.specs.Work.{plan, span, planned, within, reals, imaginaries};
 ghost use Rattle.kf_work.specs.Packed.{packedColumn, fives, packedWork, innermost, packedSpectrum};
+use butterflies::fives2;
+use butterflies::fives3;
 use butterflies::kf_bfly2;
 use butterflies::kf_bfly3;
 use butterflies::kf_bfly4;
@@ -77,6 +79,18 @@ fn kf_bfly(
     }
 }
 
+// The same where parts have five places. Radix 4 is left to the function above: called from two places it stays out of the stack of the stage that calls itself.
+fn kf_fives(re: &mut [f32], im: &mut [f32], tr: &[f32], ti: &[f32], p: usize, inverse: bool)
+    requires { ⌜ (2 ≤ p) × (p ≤ 4) × (5 * p ≤ 1 + length (now tr)) × (5 * p ≤ 1 + length (now ti)) × (5 * p ≤ length (now re)) × (5 * p ≤ length (now im)) ⌝ }
+    ensures { λ _. ⌜ at (now (re .exit)) (now (im .exit)) ≡ stage p 5 (packedColumn (at (now (tr .entry)) (now (ti .entry))) inverse p 5) (at (now (re .entry)) (now (im .entry))) ⌝ }
+{
+    match p {
+        2 => fives2(re, im, tr, ti),
+        3 => fives3(re, im, tr, ti),
+        _ => kf_bfly(re, im, tr, ti, p, 5, inverse),
+    }
+}
+
 // The transform of places from, from + fstride, .. of the input by the plan, into the block that begins here. Places past it stay.
 fn kf_work(
     re: &mut [f32],
@@ -100,22 +114,23 @@ fn kf_work(
     let ui = &ti[k..];
     if m == 5 {
         kf_leaves(re, im, x, y, ur, ui, plan, fstride, from);
-    } else {
-        let rest = &plan[2..];
-        for q in 0..p {
-            kf_work(
-                &mut re[q * m..],
-                &mut im[q * m..],
-                x,
-                y,
-                ur,
-                ui,
-                rest,
-                fstride * p,
-                from + q * fstride,
-                inverse,
-            );
-        }
+        kf_fives(re, im, tr, ti, p, inverse);
+        return;
+    }
+    let rest = &plan[2..];
+    for q in 0..p {
+        kf_work(
+            &mut re[q * m..],
+            &mut im[q * m..],
+            x,
+            y,
+            ur,
+            ui,
+            rest,
+            fstride * p,
+            from + q * fstride,
+            inverse,
+        );
     }
     kf_bfly(re, im, tr, ti, p, m, inverse);
 }

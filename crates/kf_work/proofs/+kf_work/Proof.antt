@@ -1,7 +1,6 @@
--- `kf_work::kf_work` meets its contract. The measure is the plan's inner length. The loop's invariant: the first q sub-transforms are done; where
--- the arms meet all are, and one stage over them is the transform. Assumes nothing.
+-- `kf_work::kf_work` meets its contract. The measure is the plan's inner length. The loop's invariant: the first q sub-transforms are done; at its end
+-- all are, and one stage over them is the transform; so too over the innermost stages. Assumes nothing.
 use mathlib.Core.Path.{_≡_, refl, sym, ap, _∙_}
-use mathlib.Core.Logic.{⊎-elim}
 use mathlib.Core.List.{List}
 use Prim.Native.Nat.{ℕ, _+_, _*_, _-_, _<_, _≤_}
 use native.Mathlib.Nat.{mul-comm}
@@ -13,6 +12,7 @@ use borrow.Fn.Kinds.{In}
 use borrow.Fn.PlainCycle.{Measures, is, falls, and}
 use Rattle.complex.specs.declared.Complex.{Complex}
 use Rattle.complex.specs.Complex.{at}
+use Rattle.butterflies.specs.Butterflies.{stage}
 use Rattle.kf_work.specs.Work.{within, span}
 use Rattle.kf_work.specs.Packed.{after, packedColumn, packedWork}
 use Rattle.kf_work.proofs.Plan.{Split, Taken, rest-of, plan-cons, taken, inner-positive, whole, table-nums, sub-nums}
@@ -26,6 +26,7 @@ use Rattle.kf_work.proofs.kf_work.Reads as kf-work
 use Rattle.kf_work.proofs.kf_work.Kinds as kf-work-kinds
 use Rattle.kf_work.proofs.+kf_work.Lts-kf_work as kf-work-lts
 use Rattle.kf_work.proofs.kf_leaves.Reads as kf-leaves-reads
+use Rattle.kf_work.proofs.kf_fives.Reads as kf-fives-reads
 use Rattle.kf_work.proofs.kf_bfly.Reads as kf-bfly-reads
 
 abbrev μ-kf-work : Measures 7 kf-work-kinds.ps ℕ
@@ -47,7 +48,7 @@ kf-work-Inv-loop re₀ im₀ x y tr ti plan fstride from inverse p m k ur ui res
 abbrev kf-work-μ-loop : kf-work-lts.MeasureT-loop
 kf-work-μ-loop re₀ im₀ x y tr ti plan fstride from inverse p m k ur ui rest q₀ re im q = p - q
 
-module _ (t : ℕ) (st : kf-work-lts.Start (kf-leaves-reads.Asked, kf-leaves-reads.Learnt, kf-work-below t, kf-work.Post, kf-bfly-reads.Asked, kf-bfly-reads.Learnt) (kf-work-at t) kf-work.Post kf-work-Inv-loop kf-work-μ-loop) where
+module _ (t : ℕ) (st : kf-work-lts.Start (kf-leaves-reads.Asked, kf-leaves-reads.Learnt, kf-fives-reads.Asked, kf-fives-reads.Learnt, kf-work-below t, kf-work.Post, kf-bfly-reads.Asked, kf-bfly-reads.Learnt) (kf-work-at t) kf-work.Post kf-work-Inv-loop kf-work-μ-loop) where
   abbrev ps : List ℕ
   ps = st .args .plan .now
 
@@ -87,33 +88,25 @@ module _ (t : ℕ) (st : kf-work-lts.Start (kf-leaves-reads.Asked, kf-leaves-rea
   abbrev below : ℕ → Complex
   below = blocks (packedWork (after (at (st .args .tr .now) (st .args .ti .now)) radix inner) (st .args .inverse) (at (st .args .x .now) (st .args .y .now)) (rest-of ps) (st .args .fstride * radix)) inner (st .args .fstride) (st .args .from)
 
--- where the arms meet the sub-transforms are done
-joined : (t : ℕ) (c : kf-work-lts.Joined1 (kf-leaves-reads.Asked, kf-leaves-reads.Learnt, kf-work-below t, kf-work.Post, kf-bfly-reads.Asked, kf-bfly-reads.Learnt) (kf-work-at t) kf-work.Post kf-work-Inv-loop kf-work-μ-loop)
-    → let st = c .before .before .before .before .before .before .before .before .before .before .before .before in
-    (length (c .if1 .re) ≡ length (st .args .re .now))
-    × (length (c .if1 .im) ≡ length (st .args .im .now))
-    × (at (c .if1 .re) (c .if1 .im) ≡ within (span (ps t st)) (below t st) (at (st .args .re .now) (st .args .im .now)))
-joined t c =
-    let st = c .before .before .before .before .before .before .before .before .before .before .before .before in
-    let all = whole _ _ _ _ (first t st) in
-    ⊎-elim
-    (λ w. rw (w .8, w .9) (
-      w .3 .kept .0,
-      w .3 .kept .1 .0,
-      leaves-done _ _ (at (st .args .x .now) (st .args .y .now)) (st .args .inverse) (rest-of (ps t st)) _ _ _ (st .args .fstride) (st .args .from) (lent-on t st) (w .0 .taken) (lower t st .rest-below .innermost (sym (first t st .inner) ∙ w .0 .taken)) all _ _ (w .3 .ensures),
-    ))
-    (λ w.
-    let past : w .2 .q ≡ radix t st = omega (arith, w .3 .left, w .2 .inv .2) in
-    rw (w .4, w .5) (
-      w .2 .inv .0,
-      w .2 .inv .1,
-      rw (past, all) at (w .2 .inv .3),
-    ))
-    (c .if1 .came)
+  by-fives : inner ≡ 5 → (g g′ : ℕ → Complex) → g′ ≡ stage radix 5 (packedColumn (at (st .args .tr .now) (st .args .ti .now)) (st .args .inverse) radix 5) g
+      → g′ ≡ stage radix inner (packedColumn (at (st .args .tr .now) (st .args .ti .now)) (st .args .inverse) radix inner) g
+  by-fives five g g′ turned = rw five turned
+
+  -- one stage over the sub-transforms is the transform
+  staged : (g g′ : ℕ → Complex) → g ≡ within (span ps) below (at (st .args .re .now) (st .args .im .now))
+      → g′ ≡ stage radix inner (packedColumn (at (st .args .tr .now) (st .args .ti .now)) (st .args .inverse) radix inner) g
+      → g′ ≡ within (span ps) (packedWork (at (st .args .tr .now) (st .args .ti .now)) (st .args .inverse) (at (st .args .x .now) (st .args .y .now)) ps (st .args .fstride) (st .args .from)) (at (st .args .re .now) (st .args .im .now))
+  staged g g′ before turned =
+      let u = at (st .args .tr .now) (st .args .ti .now) in
+      let all = whole _ _ _ _ first in
+      rw (work-is u (at (st .args .x .now) (st .args .y .now)) (st .args .inverse) ps _ _ _ (st .args .fstride) (st .args .from) first, ← all)
+      (finish radix inner (packedColumn u (st .args .inverse) radix inner) (column-local u (st .args .inverse) radix inner (here .0) (here .1)) (here .2) below _ g g′ (rw (← all) at before) turned)
 
 kf-work-shared-slice-read-p : (t : ℕ) → kf-work-lts.Need-shared-slice-read-p (
   kf-leaves-reads.Asked,
   kf-leaves-reads.Learnt,
+  kf-fives-reads.Asked,
+  kf-fives-reads.Learnt,
   kf-work-below t,
   kf-work.Post,
   kf-bfly-reads.Asked,
@@ -124,6 +117,8 @@ kf-work-shared-slice-read-p t c = omega (arith, here t (c .before .before .befor
 kf-work-shared-slice-read-m : (t : ℕ) → kf-work-lts.Need-shared-slice-read-m (
   kf-leaves-reads.Asked,
   kf-leaves-reads.Learnt,
+  kf-fives-reads.Asked,
+  kf-fives-reads.Learnt,
   kf-work-below t,
   kf-work.Post,
   kf-bfly-reads.Asked,
@@ -134,6 +129,8 @@ kf-work-shared-slice-read-m t c = omega (arith, here t (c .before .before .befor
 kf-work-sub-k : (t : ℕ) → kf-work-lts.Need-sub-k (
   kf-leaves-reads.Asked,
   kf-leaves-reads.Learnt,
+  kf-fives-reads.Asked,
+  kf-fives-reads.Learnt,
   kf-work-below t,
   kf-work.Post,
   kf-bfly-reads.Asked,
@@ -144,6 +141,8 @@ kf-work-sub-k t c = omega (arith, here t (c .before .before .before .before .bef
 kf-work-mul-k : (t : ℕ) → kf-work-lts.Need-mul-k (
   kf-leaves-reads.Asked,
   kf-leaves-reads.Learnt,
+  kf-fives-reads.Asked,
+  kf-fives-reads.Learnt,
   kf-work-below t,
   kf-work.Post,
   kf-bfly-reads.Asked,
@@ -154,6 +153,8 @@ kf-work-mul-k t c = omega (arith, here t (c .before .before .before .before .bef
 kf-work-mul-ur : (t : ℕ) → kf-work-lts.Need-mul-ur (
   kf-leaves-reads.Asked,
   kf-leaves-reads.Learnt,
+  kf-fives-reads.Asked,
+  kf-fives-reads.Learnt,
   kf-work-below t,
   kf-work.Post,
   kf-bfly-reads.Asked,
@@ -164,6 +165,8 @@ kf-work-mul-ur t c = omega (arith, here t (c .before .before .before .before .be
 kf-work-sub-ur : (t : ℕ) → kf-work-lts.Need-sub-ur (
   kf-leaves-reads.Asked,
   kf-leaves-reads.Learnt,
+  kf-fives-reads.Asked,
+  kf-fives-reads.Learnt,
   kf-work-below t,
   kf-work.Post,
   kf-bfly-reads.Asked,
@@ -174,6 +177,8 @@ kf-work-sub-ur t c = omega (arith, here t (c .before .before .before .before .be
 kf-work-part-ur-start : (t : ℕ) → kf-work-lts.Need-part-ur-start (
   kf-leaves-reads.Asked,
   kf-leaves-reads.Learnt,
+  kf-fives-reads.Asked,
+  kf-fives-reads.Learnt,
   kf-work-below t,
   kf-work.Post,
   kf-bfly-reads.Asked,
@@ -184,6 +189,8 @@ kf-work-part-ur-start t c = omega (arith, here t (c .before .before .before .bef
 kf-work-part-ur-end : (t : ℕ) → kf-work-lts.Need-part-ur-end (
   kf-leaves-reads.Asked,
   kf-leaves-reads.Learnt,
+  kf-fives-reads.Asked,
+  kf-fives-reads.Learnt,
   kf-work-below t,
   kf-work.Post,
   kf-bfly-reads.Asked,
@@ -194,6 +201,8 @@ kf-work-part-ur-end t c = search needs
 kf-work-mul-ui : (t : ℕ) → kf-work-lts.Need-mul-ui (
   kf-leaves-reads.Asked,
   kf-leaves-reads.Learnt,
+  kf-fives-reads.Asked,
+  kf-fives-reads.Learnt,
   kf-work-below t,
   kf-work.Post,
   kf-bfly-reads.Asked,
@@ -204,6 +213,8 @@ kf-work-mul-ui t c = omega (arith, here t (c .before .before .before .before .be
 kf-work-sub-ui : (t : ℕ) → kf-work-lts.Need-sub-ui (
   kf-leaves-reads.Asked,
   kf-leaves-reads.Learnt,
+  kf-fives-reads.Asked,
+  kf-fives-reads.Learnt,
   kf-work-below t,
   kf-work.Post,
   kf-bfly-reads.Asked,
@@ -214,6 +225,8 @@ kf-work-sub-ui t c = omega (arith, here t (c .before .before .before .before .be
 kf-work-part-ui-start : (t : ℕ) → kf-work-lts.Need-part-ui-start (
   kf-leaves-reads.Asked,
   kf-leaves-reads.Learnt,
+  kf-fives-reads.Asked,
+  kf-fives-reads.Learnt,
   kf-work-below t,
   kf-work.Post,
   kf-bfly-reads.Asked,
@@ -224,6 +237,8 @@ kf-work-part-ui-start t c = omega (arith, here t (c .before .before .before .bef
 kf-work-part-ui-end : (t : ℕ) → kf-work-lts.Need-part-ui-end (
   kf-leaves-reads.Asked,
   kf-leaves-reads.Learnt,
+  kf-fives-reads.Asked,
+  kf-fives-reads.Learnt,
   kf-work-below t,
   kf-work.Post,
   kf-bfly-reads.Asked,
@@ -234,6 +249,8 @@ kf-work-part-ui-end t c = search needs
 kf-work-kf-leaves-requires : (t : ℕ) → kf-work-lts.Need-kf-leaves-requires (
   kf-leaves-reads.Asked,
   kf-leaves-reads.Learnt,
+  kf-fives-reads.Asked,
+  kf-fives-reads.Learnt,
   kf-work-below t,
   kf-work.Post,
   kf-bfly-reads.Asked,
@@ -257,9 +274,69 @@ kf-work-kf-leaves-requires t c κs =
       omega (arith, all, st .pre .1 .9),
     )
 
+kf-work-kf-fives-requires : (t : ℕ) → kf-work-lts.Need-kf-fives-requires (
+  kf-leaves-reads.Asked,
+  kf-leaves-reads.Learnt,
+  kf-fives-reads.Asked,
+  kf-fives-reads.Learnt,
+  kf-work-below t,
+  kf-work.Post,
+  kf-bfly-reads.Asked,
+  kf-bfly-reads.Learnt,
+) (kf-work-at t) kf-work.Post kf-work-Inv-loop kf-work-μ-loop
+kf-work-kf-fives-requires t c κs =
+    let st = c .before .before .before .before .before .before .before .before .before .before .before .before .before .before .before .before .before .before .before .before .before in
+    let h = here t st in
+    let block : 5 * radix t st ≡ span (ps t st) = mul-comm 5 (radix t st) ∙ ap (λ (k : ℕ). radix t st * k) (sym (c .before .before .before .before .before .before .before .before .before .if1 .taken)) ∙ whole _ _ _ _ (first t st) in
+    (h .0, h .1, omega (arith, block, st .pre .1 .6), omega (arith, block, st .pre .1 .7), omega (arith, block, st .pre .1 .8, c .before .before .before .before .before .before .kf-leaves .kept .0), omega (arith, block, st .pre .1 .9, c .before .before .before .before .before .before .kf-leaves .kept .1 .0))
+
+kf-work-same-length : (t : ℕ) → kf-work-lts.Need-same-length (
+  kf-leaves-reads.Asked,
+  kf-leaves-reads.Learnt,
+  kf-fives-reads.Asked,
+  kf-fives-reads.Learnt,
+  kf-work-below t,
+  kf-work.Post,
+  kf-bfly-reads.Asked,
+  kf-bfly-reads.Learnt,
+) (kf-work-at t) kf-work.Post kf-work-Inv-loop kf-work-μ-loop
+kf-work-same-length t c = c .before .before .before .before .kf-fives .kept .0 ∙ c .before .before .before .before .before .before .before .before .before .before .before .kf-leaves .kept .0
+
+kf-work-same-length-2 : (t : ℕ) → kf-work-lts.Need-same-length-2 (
+  kf-leaves-reads.Asked,
+  kf-leaves-reads.Learnt,
+  kf-fives-reads.Asked,
+  kf-fives-reads.Learnt,
+  kf-work-below t,
+  kf-work.Post,
+  kf-bfly-reads.Asked,
+  kf-bfly-reads.Learnt,
+) (kf-work-at t) kf-work.Post kf-work-Inv-loop kf-work-μ-loop
+kf-work-same-length-2 t c = c .before .before .before .before .kf-fives .kept .1 .0 ∙ c .before .before .before .before .before .before .before .before .before .before .before .kf-leaves .kept .1 .0
+
+kf-work-returns : (t : ℕ) → kf-work-lts.Need-returns (
+  kf-leaves-reads.Asked,
+  kf-leaves-reads.Learnt,
+  kf-fives-reads.Asked,
+  kf-fives-reads.Learnt,
+  kf-work-below t,
+  kf-work.Post,
+  kf-bfly-reads.Asked,
+  kf-bfly-reads.Learnt,
+) (kf-work-at t) kf-work.Post kf-work-Inv-loop kf-work-μ-loop
+kf-work-returns t c =
+    let st = c .before .before .before .before .before .before .before .before .before .before .before .before .before .before .before .before .before .before .before .before .before .before .before .before .before .before in
+    let a = st .args in
+    let five = c .before .before .before .before .before .before .before .before .before .before .before .before .before .before .if1 .taken in
+    staged t st _ _
+    (leaves-done _ _ (at (a .x .now) (a .y .now)) (a .inverse) (rest-of (ps t st)) _ _ _ (a .fstride) (a .from) (lent-on t st) five (lower t st .rest-below .innermost (sym (first t st .inner) ∙ five)) (whole _ _ _ _ (first t st)) _ _ (c .before .before .before .before .before .before .before .before .before .before .before .kf-leaves .ensures))
+    (by-fives t st five _ _ (c .before .before .before .before .kf-fives .ensures))
+
 kf-work-sub-rest : (t : ℕ) → kf-work-lts.Need-sub-rest (
   kf-leaves-reads.Asked,
   kf-leaves-reads.Learnt,
+  kf-fives-reads.Asked,
+  kf-fives-reads.Learnt,
   kf-work-below t,
   kf-work.Post,
   kf-bfly-reads.Asked,
@@ -270,6 +347,8 @@ kf-work-sub-rest t c = omega (arith, here t (c .before .before .before .before .
 kf-work-part-rest-start : (t : ℕ) → kf-work-lts.Need-part-rest-start (
   kf-leaves-reads.Asked,
   kf-leaves-reads.Learnt,
+  kf-fives-reads.Asked,
+  kf-fives-reads.Learnt,
   kf-work-below t,
   kf-work.Post,
   kf-bfly-reads.Asked,
@@ -280,6 +359,8 @@ kf-work-part-rest-start t c = omega (arith, here t (c .before .before .before .b
 kf-work-part-rest-end : (t : ℕ) → kf-work-lts.Need-part-rest-end (
   kf-leaves-reads.Asked,
   kf-leaves-reads.Learnt,
+  kf-fives-reads.Asked,
+  kf-fives-reads.Learnt,
   kf-work-below t,
   kf-work.Post,
   kf-bfly-reads.Asked,
@@ -290,6 +371,8 @@ kf-work-part-rest-end t c = search needs
 kf-work-loop-holds : (t : ℕ) → kf-work-lts.Need-loop-holds (
   kf-leaves-reads.Asked,
   kf-leaves-reads.Learnt,
+  kf-fives-reads.Asked,
+  kf-fives-reads.Learnt,
   kf-work-below t,
   kf-work.Post,
   kf-bfly-reads.Asked,
@@ -300,6 +383,8 @@ kf-work-loop-holds t c = (refl, refl, omega arith, within-zero _ _ _)
 kf-work-mul-kf-work : (t : ℕ) → kf-work-lts.Need-mul-kf-work (
   kf-leaves-reads.Asked,
   kf-leaves-reads.Learnt,
+  kf-fives-reads.Asked,
+  kf-fives-reads.Learnt,
   kf-work-below t,
   kf-work.Post,
   kf-bfly-reads.Asked,
@@ -310,6 +395,8 @@ kf-work-mul-kf-work t c = omega (arith, sub t (c .before .before .before .before
 kf-work-mul-kf-work-2 : (t : ℕ) → kf-work-lts.Need-mul-kf-work-2 (
   kf-leaves-reads.Asked,
   kf-leaves-reads.Learnt,
+  kf-fives-reads.Asked,
+  kf-fives-reads.Learnt,
   kf-work-below t,
   kf-work.Post,
   kf-bfly-reads.Asked,
@@ -320,6 +407,8 @@ kf-work-mul-kf-work-2 t c = omega (arith, sub t (c .before .before .before .befo
 kf-work-sub-kf-work : (t : ℕ) → kf-work-lts.Need-sub-kf-work (
   kf-leaves-reads.Asked,
   kf-leaves-reads.Learnt,
+  kf-fives-reads.Asked,
+  kf-fives-reads.Learnt,
   kf-work-below t,
   kf-work.Post,
   kf-bfly-reads.Asked,
@@ -330,6 +419,8 @@ kf-work-sub-kf-work t c = omega (arith, sub t (c .before .before .before .before
 kf-work-part-kf-work-start : (t : ℕ) → kf-work-lts.Need-part-kf-work-start (
   kf-leaves-reads.Asked,
   kf-leaves-reads.Learnt,
+  kf-fives-reads.Asked,
+  kf-fives-reads.Learnt,
   kf-work-below t,
   kf-work.Post,
   kf-bfly-reads.Asked,
@@ -340,6 +431,8 @@ kf-work-part-kf-work-start t c = omega (arith, sub t (c .before .before .before 
 kf-work-part-kf-work-end : (t : ℕ) → kf-work-lts.Need-part-kf-work-end (
   kf-leaves-reads.Asked,
   kf-leaves-reads.Learnt,
+  kf-fives-reads.Asked,
+  kf-fives-reads.Learnt,
   kf-work-below t,
   kf-work.Post,
   kf-bfly-reads.Asked,
@@ -350,6 +443,8 @@ kf-work-part-kf-work-end t c = search needs
 kf-work-mul-kf-work-3 : (t : ℕ) → kf-work-lts.Need-mul-kf-work-3 (
   kf-leaves-reads.Asked,
   kf-leaves-reads.Learnt,
+  kf-fives-reads.Asked,
+  kf-fives-reads.Learnt,
   kf-work-below t,
   kf-work.Post,
   kf-bfly-reads.Asked,
@@ -360,6 +455,8 @@ kf-work-mul-kf-work-3 t c = omega (arith, sub t (c .before .before .before .befo
 kf-work-mul-kf-work-4 : (t : ℕ) → kf-work-lts.Need-mul-kf-work-4 (
   kf-leaves-reads.Asked,
   kf-leaves-reads.Learnt,
+  kf-fives-reads.Asked,
+  kf-fives-reads.Learnt,
   kf-work-below t,
   kf-work.Post,
   kf-bfly-reads.Asked,
@@ -370,6 +467,8 @@ kf-work-mul-kf-work-4 t c = omega (arith, sub t (c .before .before .before .befo
 kf-work-sub-kf-work-2 : (t : ℕ) → kf-work-lts.Need-sub-kf-work-2 (
   kf-leaves-reads.Asked,
   kf-leaves-reads.Learnt,
+  kf-fives-reads.Asked,
+  kf-fives-reads.Learnt,
   kf-work-below t,
   kf-work.Post,
   kf-bfly-reads.Asked,
@@ -380,6 +479,8 @@ kf-work-sub-kf-work-2 t c = omega (arith, sub t (c .before .before .before .befo
 kf-work-part-kf-work-start-2 : (t : ℕ) → kf-work-lts.Need-part-kf-work-start-2 (
   kf-leaves-reads.Asked,
   kf-leaves-reads.Learnt,
+  kf-fives-reads.Asked,
+  kf-fives-reads.Learnt,
   kf-work-below t,
   kf-work.Post,
   kf-bfly-reads.Asked,
@@ -390,6 +491,8 @@ kf-work-part-kf-work-start-2 t c = omega (arith, sub t (c .before .before .befor
 kf-work-part-kf-work-end-2 : (t : ℕ) → kf-work-lts.Need-part-kf-work-end-2 (
   kf-leaves-reads.Asked,
   kf-leaves-reads.Learnt,
+  kf-fives-reads.Asked,
+  kf-fives-reads.Learnt,
   kf-work-below t,
   kf-work.Post,
   kf-bfly-reads.Asked,
@@ -400,6 +503,8 @@ kf-work-part-kf-work-end-2 t c = search needs
 kf-work-mul-kf-work-5 : (t : ℕ) → kf-work-lts.Need-mul-kf-work-5 (
   kf-leaves-reads.Asked,
   kf-leaves-reads.Learnt,
+  kf-fives-reads.Asked,
+  kf-fives-reads.Learnt,
   kf-work-below t,
   kf-work.Post,
   kf-bfly-reads.Asked,
@@ -410,6 +515,8 @@ kf-work-mul-kf-work-5 t c = omega (arith, sub t (c .before .before .before .befo
 kf-work-mul-kf-work-6 : (t : ℕ) → kf-work-lts.Need-mul-kf-work-6 (
   kf-leaves-reads.Asked,
   kf-leaves-reads.Learnt,
+  kf-fives-reads.Asked,
+  kf-fives-reads.Learnt,
   kf-work-below t,
   kf-work.Post,
   kf-bfly-reads.Asked,
@@ -420,6 +527,8 @@ kf-work-mul-kf-work-6 t c = omega (arith, sub t (c .before .before .before .befo
 kf-work-add-kf-work : (t : ℕ) → kf-work-lts.Need-add-kf-work (
   kf-leaves-reads.Asked,
   kf-leaves-reads.Learnt,
+  kf-fives-reads.Asked,
+  kf-fives-reads.Learnt,
   kf-work-below t,
   kf-work.Post,
   kf-bfly-reads.Asked,
@@ -430,6 +539,8 @@ kf-work-add-kf-work t c = omega (arith, sub t (c .before .before .before .before
 kf-work-kf-work-requires : (t : ℕ) → kf-work-lts.Need-kf-work-requires (
   kf-leaves-reads.Asked,
   kf-leaves-reads.Learnt,
+  kf-fives-reads.Asked,
+  kf-fives-reads.Learnt,
   kf-work-below t,
   kf-work.Post,
   kf-bfly-reads.Asked,
@@ -460,6 +571,8 @@ kf-work-kf-work-requires t c κs =
 kf-work-add-q : (t : ℕ) → kf-work-lts.Need-add-q (
   kf-leaves-reads.Asked,
   kf-leaves-reads.Learnt,
+  kf-fives-reads.Asked,
+  kf-fives-reads.Learnt,
   kf-work-below t,
   kf-work.Post,
   kf-bfly-reads.Asked,
@@ -470,6 +583,8 @@ kf-work-add-q t c = omega (arith, c .before .before .before .before .before .bef
 kf-work-loop-less : (t : ℕ) → kf-work-lts.Need-loop-less (
   kf-leaves-reads.Asked,
   kf-leaves-reads.Learnt,
+  kf-fives-reads.Asked,
+  kf-fives-reads.Learnt,
   kf-work-below t,
   kf-work.Post,
   kf-bfly-reads.Asked,
@@ -480,6 +595,8 @@ kf-work-loop-less t c = omega (arith, c .before .before .before .before .before 
 kf-work-loop-again : (t : ℕ) → kf-work-lts.Need-loop-again (
   kf-leaves-reads.Asked,
   kf-leaves-reads.Learnt,
+  kf-fives-reads.Asked,
+  kf-fives-reads.Learnt,
   kf-work-below t,
   kf-work.Post,
   kf-bfly-reads.Asked,
@@ -490,8 +607,8 @@ kf-work-loop-again t c =
     let a = st .args in
     let lp = c .before .before .before .before .before .before .before .before .loop in
     let n = sub t st (lp .q) (c .before .before .before .before .before .before .before .loop-test .taken) in (
-      c .before .before .before .re2 .given .1 ∙ lp .inv .0,
-      c .before .im2 .given .1 ∙ lp .inv .1,
+      c .before .before .before .re3 .given .1 ∙ lp .inv .0,
+      c .before .im3 .given .1 ∙ lp .inv .1,
       omega (arith, c .before .before .before .before .before .before .before .loop-test .taken),
       call-done (packedWork (after (at (a .tr .now) (a .ti .now)) (radix t st) (inner t st)) (a .inverse) (at (a .x .now) (a .y .now)) (rest-of (ps t st)) (a .fstride * radix t st)) (inner t st) (a .fstride) (a .from) (lp .q) (here t st .2) _
           (lp .re) (lp .im) (c .before .before .before .before .kf-work .last .0) (c .before .before .before .before .kf-work .last .1 .0) (omega (arith, n .0, st .pre .1 .8, lp .inv .0)) (omega (arith, n .0, st .pre .1 .9, lp .inv .1)) (lp .inv .3)
@@ -501,61 +618,66 @@ kf-work-loop-again t c =
 kf-work-kf-bfly-requires : (t : ℕ) → kf-work-lts.Need-kf-bfly-requires (
   kf-leaves-reads.Asked,
   kf-leaves-reads.Learnt,
+  kf-fives-reads.Asked,
+  kf-fives-reads.Learnt,
   kf-work-below t,
   kf-work.Post,
   kf-bfly-reads.Asked,
   kf-bfly-reads.Learnt,
 ) (kf-work-at t) kf-work.Post kf-work-Inv-loop kf-work-μ-loop
 kf-work-kf-bfly-requires t c κs =
-    let st = c .before .before .before .before .before .before .before .before .before .before .before .before .before .before in
+    let st = c .before .before .before .before .before .before .before .before .before .before .before .before .before .before .before .before .before in
+    let lp = c .before .before .before .loop in
     let h = here t st in
-    let j = joined t (c .before .before) in
-    let all = whole _ _ _ _ (first t st) in
-    let block : inner t st * radix t st ≡ span (ps t st) = mul-comm (inner t st) (radix t st) ∙ all in
-    (h .0, h .1, h .2, omega (arith, block, st .pre .1 .6), omega (arith, block, st .pre .1 .7), omega (arith, block, st .pre .1 .8, j .0), omega (arith, block, st .pre .1 .9, j .1))
+    let block : inner t st * radix t st ≡ span (ps t st) = mul-comm (inner t st) (radix t st) ∙ whole _ _ _ _ (first t st) in
+    (h .0, h .1, h .2, omega (arith, block, st .pre .1 .6), omega (arith, block, st .pre .1 .7), omega (arith, block, st .pre .1 .8, lp .inv .0), omega (arith, block, st .pre .1 .9, lp .inv .1))
 
-kf-work-same-length : (t : ℕ) → kf-work-lts.Need-same-length (
+kf-work-same-length-3 : (t : ℕ) → kf-work-lts.Need-same-length-3 (
   kf-leaves-reads.Asked,
   kf-leaves-reads.Learnt,
+  kf-fives-reads.Asked,
+  kf-fives-reads.Learnt,
   kf-work-below t,
   kf-work.Post,
   kf-bfly-reads.Asked,
   kf-bfly-reads.Learnt,
 ) (kf-work-at t) kf-work.Post kf-work-Inv-loop kf-work-μ-loop
-kf-work-same-length t c = c .before .before .before .before .kf-bfly .kept .0 ∙ joined t (c .before .before .before .before .before .before .before) .0
+kf-work-same-length-3 t c = c .before .before .before .before .kf-bfly .kept .0 ∙ c .before .before .before .before .before .before .before .before .loop .inv .0
 
-kf-work-same-length-2 : (t : ℕ) → kf-work-lts.Need-same-length-2 (
+kf-work-same-length-4 : (t : ℕ) → kf-work-lts.Need-same-length-4 (
   kf-leaves-reads.Asked,
   kf-leaves-reads.Learnt,
+  kf-fives-reads.Asked,
+  kf-fives-reads.Learnt,
   kf-work-below t,
   kf-work.Post,
   kf-bfly-reads.Asked,
   kf-bfly-reads.Learnt,
 ) (kf-work-at t) kf-work.Post kf-work-Inv-loop kf-work-μ-loop
-kf-work-same-length-2 t c = c .before .before .before .before .kf-bfly .kept .1 .0 ∙ joined t (c .before .before .before .before .before .before .before) .1
+kf-work-same-length-4 t c = c .before .before .before .before .kf-bfly .kept .1 .0 ∙ c .before .before .before .before .before .before .before .before .loop .inv .1
 
-kf-work-returns : (t : ℕ) → kf-work-lts.Need-returns (
+kf-work-returns-2 : (t : ℕ) → kf-work-lts.Need-returns-2 (
   kf-leaves-reads.Asked,
   kf-leaves-reads.Learnt,
+  kf-fives-reads.Asked,
+  kf-fives-reads.Learnt,
   kf-work-below t,
   kf-work.Post,
   kf-bfly-reads.Asked,
   kf-bfly-reads.Learnt,
 ) (kf-work-at t) kf-work.Post kf-work-Inv-loop kf-work-μ-loop
-kf-work-returns t c =
-    let st = c .before .before .before .before .before .before .before .before .before .before .before .before .before .before .before .before .before .before .before in
-    let a = st .args in
-    let u = at (a .tr .now) (a .ti .now) in
-    let all = whole _ _ _ _ (first t st) in
-    let h = here t st in
-    let before = rw (← all) at (joined t (c .before .before .before .before .before .before .before) .2) in
-    rw (work-is u (at (a .x .now) (a .y .now)) (a .inverse) (ps t st) _ _ _ (a .fstride) (a .from) (first t st), ← all)
-    (finish (radix t st) (inner t st) (packedColumn u (a .inverse) (radix t st) (inner t st)) (column-local u (a .inverse) (radix t st) (inner t st) (h .0) (h .1)) (h .2) (below t st) _ _ _ before (c .before .before .before .before .kf-bfly .ensures))
+kf-work-returns-2 t c =
+    let st = c .before .before .before .before .before .before .before .before .before .before .before .before .before .before .before .before .before .before .before .before .before .before in
+    let lp = c .before .before .before .before .before .before .before .before .loop in
+    let past : lp .q ≡ radix t st = omega (arith, c .before .before .before .before .before .before .before .loop-test .left, lp .inv .2) in
+    staged t st _ _ (rw (past, whole _ _ _ _ (first t st)) at (lp .inv .3)) (c .before .before .before .before .kf-bfly .ensures)
 
 pub +kf-work-spec : {M : Type 1} → statement M
 +kf-work-spec = close μ-kf-work λ t. kf-work-lts.spec (
   kf-leaves-reads.Asked,
   kf-leaves-reads.Learnt,
+  kf-fives-reads.Asked,
+  kf-fives-reads.Learnt,
   kf-work-below t,
   kf-work.Post,
   kf-bfly-reads.Asked,
@@ -578,6 +700,10 @@ pub +kf-work-spec : {M : Type 1} → statement M
     (kf-work-part-ui-start t)
     (kf-work-part-ui-end t)
     (kf-work-kf-leaves-requires t)
+    (kf-work-kf-fives-requires t)
+    (kf-work-same-length t)
+    (kf-work-same-length-2 t)
+    (kf-work-returns t)
     (kf-work-sub-rest t)
     (kf-work-part-rest-start t)
     (kf-work-part-rest-end t)
@@ -600,6 +726,6 @@ pub +kf-work-spec : {M : Type 1} → statement M
     (kf-work-loop-less t)
     (kf-work-loop-again t)
     (kf-work-kf-bfly-requires t)
-    (kf-work-same-length t)
-    (kf-work-same-length-2 t)
-    (kf-work-returns t)
+    (kf-work-same-length-3 t)
+    (kf-work-same-length-4 t)
+    (kf-work-returns-2 t)
