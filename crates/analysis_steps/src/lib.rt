@@ -226,6 +226,8 @@ pub fn energy(lines: &[f32]) -> f32
         1 => one(lines, 0),
         2 => pair(lines, 2.0),
         3 => pair(lines, 3.0) + share(lines, 2, 3.0),
+        4 => four(lines, 0, 4.0, 0.0),
+        5 => four(lines, 0, 5.0, 0.0) + share(lines, 4, 5.0),
         _ => many(lines),
     }
 }
