@@ -1,5 +1,5 @@
 -- A stage's column looks at the places of its column alone. Assumes nothing.
-use mathlib.Core.Path.{_≡_, refl}
+use mathlib.Core.Path.{refl}
 use mathlib.Core.Bool.{Bool}
 use Prim.Native.Nat.{ℕ}
 use Rattle.complex.specs.declared.Complex.{Complex}

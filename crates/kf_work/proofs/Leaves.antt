@@ -17,7 +17,7 @@ use Rattle.quads.specs.Rows.{writes}
 use Rattle.quads.proofs.Read.{Sees, sees5, seen, twist-same}
 use Rattle.butterflies.specs.Butterflies.{stage}
 use Rattle.kf_work.specs.Work.{within}
-use Rattle.kf_work.specs.Packed.{after, packedColumn, packedWork, innermost}
+use Rattle.kf_work.specs.Packed.{packedColumn, packedWork, innermost}
 use Rattle.kf_work.proofs.Stages.{blocks}
 use Rattle.kf_work.proofs.Spread.{within-none, within-more, stride-in}
 

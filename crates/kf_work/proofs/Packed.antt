@@ -1,22 +1,20 @@
 -- With a packed table a stage makes what it makes with the twiddles that the table has, and so the transform. Assumes nothing.
-use mathlib.Core.Path.{_≡_, refl, sym, ap, ap₂, _∙_, subst, fun-ext}
-use mathlib.Core.Bool.{Bool, cond, _&&_}
+use mathlib.Core.Path.{_≡_, refl, sym, ap, ap₂, _∙_, fun-ext}
+use mathlib.Core.Bool.{Bool, cond}
 use mathlib.Core.List.{List, [], _∷_}
 use Prim.Native.Nat.{ℕ, zero, suc, _+_, _*_, _-_, _/_, _%_, _<_, _≤_}
-use native.Mathlib.Nat.{mod-lt, mul-zero, zero-mul, mul-one, div-one, mod-one}
+use native.Mathlib.Nat.{mod-lt, mul-zero, zero-mul, mul-one}
 use native.Mathlib.Omega.{arith}
 use lib.Dec.{T, leb, ltb, eqb, leb→le, eqb→eq}
-use lib.ListN.{length}
-use borrow.Author.Tests.{lt-ltb}
 use Rattle.complex.specs.declared.Complex.{Complex}
 use Rattle.complex.specs.Complex.{parts, times}
-use Rattle.columns.specs.Column.{two, three, four, five}
+use Rattle.columns.specs.Column.{three, five}
 use Rattle.quads.specs.Beside.{twistBy, beside, one32, beside2, beside3, beside4, beside5}
 use Rattle.quads.proofs.Read.{sees2, sees3, sees4, sees5}
 use Rattle.butterflies.specs.Butterflies.{stage, twist, column2, column3, column4, column5}
-use Rattle.kf_work.specs.Work.{span, planned, column, work}
-use Rattle.kf_work.specs.Packed.{after, packedColumn, fives, packedWork, innermost, Packed}
-use Rattle.kf_work.proofs.Plan.{Split, split, and-l, and-r, inner-positive}
+use Rattle.kf_work.specs.Work.{planned, column, work}
+use Rattle.kf_work.specs.Packed.{after, packedColumn, fives, packedWork, Packed}
+use Rattle.kf_work.proofs.Plan.{split, and-l, and-r, inner-positive}
 
 stage-alike : (p m : ℕ) (b b′ : ℕ → (ℕ → Complex) → ℕ → Complex) → 0 < m → ((j : ℕ) → j < m → (c : ℕ → Complex) → b j c ≡ b′ j c)
     → (f : ℕ → Complex) → stage p m b f ≡ stage p m b′ f

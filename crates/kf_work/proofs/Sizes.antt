@@ -1,13 +1,12 @@
 -- The plan of each accepted size, by one computed test over the sizes, and the outputs as lists, from their places. Assumes nothing.
 use mathlib.Core.Path.{_≡_, ap, _∙_, fun-ext}
-use mathlib.Core.Bool.{Bool, true, false, _&&_}
+use mathlib.Core.Bool.{Bool, _&&_}
 use mathlib.Core.List.{List}
 use Prim.Native.Nat.{ℕ, _<_}
 use lib.Dec.{T, ltb, eqb, ltb→lt, eqb→eq}
 use lib.Ieee.{Float, nan}
 use lib.Ieee.Fits.{and-l, and-r}
 use lib.ListN.{length}
-use Rattle.laws.specs.Lists.{tab}
 use Rattle.laws.proofs.Lists.{is-tab}
 use Rattle.laws.proofs.Table.{every}
 use Rattle.config.specs.Tables.{rows}

@@ -1,35 +1,27 @@
+-- `butterflies::fives2` meets its contract: four columns and one are all of five. Assumes nothing.
 use mathlib.Core.Path.{refl}
+use borrow.Author.Needs.{needs}
 use Rattle.complex.specs.Complex.{at}
 use Rattle.quads.specs.Beside.{beside2}
 use Rattle.quads.specs.Rows.{inTurn}
 use Rattle.quads.proofs.Rows.{in-turn}
 use Rattle.butterflies.proofs.Columns.{done-five}
 use Rattle.butterflies.proofs.Local.{local2}
-use borrow.Author.Needs.{needs}
 use Rattle.butterflies.proofs.fives2.Statement.{statement}
 use Rattle.butterflies.proofs.fives2.Tie as tie
-use Rattle.butterflies.proofs.fives2.Reads as reads
-use Rattle.butterflies.proofs.fives2.Lts as lts
-use Rattle.quads.proofs.quad2.Reads as quad2-reads
-use Rattle.quads.proofs.turn2.Reads as turn2-reads
 
--- src/lib.rt:70:5
 quad2-requires : tie.Need-quad2-requires
 quad2-requires c κs = search needs
 
--- src/lib.rt:71:5
 turn2-requires : tie.Need-turn2-requires
 turn2-requires c κs = search needs
 
--- src/lib.rt:66:1
 same-length : tie.Need-same-length
 same-length c = search needs
 
--- src/lib.rt:66:1
 same-length-2 : tie.Need-same-length-2
 same-length-2 c = search needs
 
--- src/lib.rt:66:1
 returns : tie.Need-returns
 returns c =
     let u = at (c .before .before .before .before .before .before .before .before .before .before .before .before .before .before .before .before .before .before .args .tr .now) (c .before .before .before .before .before .before .before .before .before .before .before .before .before .before .before .before .before .before .args .ti .now) in

@@ -1,3 +1,4 @@
+-- `butterflies::kf_bfly2` meets its contract. The invariant of both loops: the columns below the next are turned, the others are not. Assumes nothing.
 use mathlib.Core.Path.{_≡_, refl, _∙_, fun-ext}
 use Prim.Native.Nat.{ℕ, _+_, _*_, _-_, _/_, _≤_}
 use native.Mathlib.Omega.{arith}
@@ -11,10 +12,6 @@ use Rattle.butterflies.proofs.Columns.{Done, done-none, done-more, done
 use Rattle.butterflies.proofs.Local.{local2}
 use Rattle.butterflies.proofs.kf_bfly2.Statement.{statement}
 use Rattle.butterflies.proofs.kf_bfly2.Tie as tie
-use Rattle.butterflies.proofs.kf_bfly2.Reads as reads
-use Rattle.butterflies.proofs.kf_bfly2.Lts as lts
-use Rattle.quads.proofs.quad2.Reads as quad2-reads
-use Rattle.quads.proofs.turn2.Reads as turn2-reads
 
 abbrev Inv-loop : tie.InvT-loop
 Inv-loop re₀ im₀ tr ti m q₀ q-end re im q = (length re ≡ length re₀) × (length im ≡ length im₀) × (q ≤ q-end) × Done 2 m (beside2 (at tr ti) m) (at re₀ im₀) (at re im) (4 * q)
@@ -28,27 +25,21 @@ Inv-loop2 re₀ im₀ tr ti m i₀ re im i = (length re ≡ length re₀) × (le
 abbrev μ-loop2 : tie.MeasureT-loop2
 μ-loop2 re₀ im₀ tr ti m i₀ re im i = m - i
 
--- src/lib.rt:30:5
 loop-holds : tie.Need-loop-holds Inv-loop μ-loop Inv-loop2 μ-loop2
 loop-holds c = (refl, refl, omega arith, done-none _ _ _ _)
 
--- src/lib.rt:31:34
 mul-quad2 : tie.Need-mul-quad2 Inv-loop μ-loop Inv-loop2 μ-loop2
 mul-quad2 c = omega (arith, c .before .before .loop-test .taken, c .before .before .before .before .before .before .before .before .good .0)
 
--- src/lib.rt:31:9
 quad2-requires : tie.Need-quad2-requires Inv-loop μ-loop Inv-loop2 μ-loop2
 quad2-requires c κs = omega (arith, c .before .before .loop-test .taken, c .before .before .before .loop .inv, c .before .before .before .before .before .before .before .before .pre)
 
--- src/lib.rt:30:9
 add-q : tie.Need-add-q Inv-loop μ-loop Inv-loop2 μ-loop2
 add-q c = omega (arith, c .before .before .before .before .before .before .before .loop-test .taken, c .before .before .before .before .before .before .before .before .before .before .before .before .before .good .0)
 
--- src/lib.rt:30:5
 loop-less : tie.Need-loop-less Inv-loop μ-loop Inv-loop2 μ-loop2
 loop-less c = omega (arith, c .before .before .before .before .before .before .before .loop-test .taken)
 
--- src/lib.rt:30:5
 loop-again : tie.Need-loop-again Inv-loop μ-loop Inv-loop2 μ-loop2
 loop-again c =
     let lp = c .before .before .before .before .before .before .before .before .loop in
@@ -60,27 +51,21 @@ loop-again c =
       rw e (done-more 2 (a .m) (beside2 (at (a .tr .now) (a .ti .now)) (a .m)) (local2 (at (a .tr .now) (a .ti .now)) (a .m)) inTurn (in-turn 2) 4 _ (at (lp .re) (lp .im)) _ (4 * lp .q) (omega (arith, c .before .before .before .before .before .before .before .loop-test .taken)) (lp .inv .3) (c .before .before .before .before .quad2 .ensures)),
     )
 
--- src/lib.rt:33:14
 mul-i : tie.Need-mul-i Inv-loop μ-loop Inv-loop2 μ-loop2
 mul-i c = omega (arith, c .before .before .before .before .before .before .good .0)
 
--- src/lib.rt:33:5
 loop2-holds : tie.Need-loop2-holds Inv-loop μ-loop Inv-loop2 μ-loop2
 loop2-holds c = (refl, refl, omega arith, λ f d. d)
 
--- src/lib.rt:34:9
 turn2-requires : tie.Need-turn2-requires Inv-loop μ-loop Inv-loop2 μ-loop2
 turn2-requires c κs = omega (arith, c .before .before .loop2-test .taken, c .before .before .before .loop2 .inv, c .before .before .before .before .before .loop .inv, c .before .before .before .before .before .before .before .before .before .before .pre)
 
--- src/lib.rt:33:9
 add-i : tie.Need-add-i Inv-loop μ-loop Inv-loop2 μ-loop2
 add-i c = omega (arith, c .before .before .before .before .before .before .before .loop2-test .taken, c .before .before .before .before .before .before .before .before .before .before .before .before .before .before .before .good .0)
 
--- src/lib.rt:33:5
 loop2-less : tie.Need-loop2-less Inv-loop μ-loop Inv-loop2 μ-loop2
 loop2-less c = omega (arith, c .before .before .before .before .before .before .before .loop2-test .taken)
 
--- src/lib.rt:33:5
 loop2-again : tie.Need-loop2-again Inv-loop μ-loop Inv-loop2 μ-loop2
 loop2-again c =
     let lp = c .before .before .before .before .before .before .before .before .loop2 in
@@ -91,15 +76,12 @@ loop2-again c =
       λ f d. done-more 2 (a .m) (beside2 (at (a .tr .now) (a .ti .now)) (a .m)) (local2 (at (a .tr .now) (a .ti .now)) (a .m)) inTurn (in-turn 2) 1 f (at (lp .re) (lp .im)) _ (lp .i) (omega (arith, c .before .before .before .before .before .before .before .loop2-test .taken)) (lp .inv .3 f d) (c .before .before .before .before .turn2 .ensures),
     )
 
--- src/lib.rt:26:1
 same-length : tie.Need-same-length Inv-loop μ-loop Inv-loop2 μ-loop2
 same-length c = c .before .loop2 .inv .0 ∙ c .before .before .before .loop .inv .0
 
--- src/lib.rt:26:1
 same-length-2 : tie.Need-same-length-2 Inv-loop μ-loop Inv-loop2 μ-loop2
 same-length-2 c = c .before .loop2 .inv .1 ∙ c .before .before .before .loop .inv .1
 
--- src/lib.rt:26:1
 returns : tie.Need-returns Inv-loop μ-loop Inv-loop2 μ-loop2
 returns c =
     let a = c .before .before .before .before .before .before .before .before .args in

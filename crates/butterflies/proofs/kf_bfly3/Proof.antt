@@ -1,3 +1,4 @@
+-- `butterflies::kf_bfly3` meets its contract. The invariant of both loops: the columns below the next are turned, the others are not. Assumes nothing.
 use mathlib.Core.Path.{_≡_, refl, _∙_, fun-ext}
 use Prim.Native.Nat.{ℕ, _+_, _*_, _-_, _/_, _≤_}
 use native.Mathlib.Omega.{arith}
@@ -11,11 +12,6 @@ use Rattle.butterflies.proofs.Columns.{Done, done-none, done-more, done
 use Rattle.butterflies.proofs.Local.{local3}
 use Rattle.butterflies.proofs.kf_bfly3.Statement.{statement}
 use Rattle.butterflies.proofs.kf_bfly3.Tie as tie
-use Rattle.butterflies.proofs.kf_bfly3.Reads as reads
-use Rattle.butterflies.proofs.kf_bfly3.Lts as lts
-use Rattle.complex.proofs.get.Reads as get-reads
-use Rattle.quads.proofs.quad3.Reads as quad3-reads
-use Rattle.quads.proofs.turn3.Reads as turn3-reads
 
 abbrev Inv-loop : tie.InvT-loop
 Inv-loop re₀ im₀ tr ti m y q₀ q-end re im q = (length re ≡ length re₀) × (length im ≡ length im₀) × (q ≤ q-end) × Done 3 m (beside3 y (at tr ti) m) (at re₀ im₀) (at re im) (4 * q)
@@ -29,39 +25,30 @@ Inv-loop2 re₀ im₀ tr ti m y i₀ re im i = (length re ≡ length re₀) × (
 abbrev μ-loop2 : tie.MeasureT-loop2
 μ-loop2 re₀ im₀ tr ti m y i₀ re im i = m - i
 
--- src/lib.rt:43:25
 mul-get : tie.Need-mul-get Inv-loop μ-loop Inv-loop2 μ-loop2
 mul-get c = omega (arith, c .before .before .before .before .good .0, c .before .before .before .before .pre)
 
--- src/lib.rt:43:25
 sub-get : tie.Need-sub-get Inv-loop μ-loop Inv-loop2 μ-loop2
 sub-get c = omega (arith, c .before .before .before .before .pre)
 
--- src/lib.rt:43:9
 get-requires : tie.Need-get-requires Inv-loop μ-loop Inv-loop2 μ-loop2
 get-requires c κs = omega (arith, c .before .before .before .before .pre)
 
--- src/lib.rt:44:5
 loop-holds : tie.Need-loop-holds Inv-loop μ-loop Inv-loop2 μ-loop2
 loop-holds c = (refl, refl, omega arith, done-none _ _ _ _)
 
--- src/lib.rt:45:34
 mul-quad3 : tie.Need-mul-quad3 Inv-loop μ-loop Inv-loop2 μ-loop2
 mul-quad3 c = omega (arith, c .before .before .loop-test .taken, c .before .before .before .before .before .before .before .before .before .good .0)
 
--- src/lib.rt:45:9
 quad3-requires : tie.Need-quad3-requires Inv-loop μ-loop Inv-loop2 μ-loop2
 quad3-requires c κs = omega (arith, c .before .before .loop-test .taken, c .before .before .before .loop .inv, c .before .before .before .before .before .before .before .before .before .pre)
 
--- src/lib.rt:44:9
 add-q : tie.Need-add-q Inv-loop μ-loop Inv-loop2 μ-loop2
 add-q c = omega (arith, c .before .before .before .before .before .before .before .loop-test .taken, c .before .before .before .before .before .before .before .before .before .before .before .before .before .before .good .0)
 
--- src/lib.rt:44:5
 loop-less : tie.Need-loop-less Inv-loop μ-loop Inv-loop2 μ-loop2
 loop-less c = omega (arith, c .before .before .before .before .before .before .before .loop-test .taken)
 
--- src/lib.rt:44:5
 loop-again : tie.Need-loop-again Inv-loop μ-loop Inv-loop2 μ-loop2
 loop-again c =
     let lp = c .before .before .before .before .before .before .before .before .loop in
@@ -73,27 +60,21 @@ loop-again c =
       rw e (done-more 3 (a .m) (beside3 (c .before .before .before .before .before .before .before .before .before .get .result) (at (a .tr .now) (a .ti .now)) (a .m)) (local3 (at (a .tr .now) (a .ti .now)) (a .m) (c .before .before .before .before .before .before .before .before .before .get .result)) inTurn (in-turn 3) 4 _ (at (lp .re) (lp .im)) _ (4 * lp .q) (omega (arith, c .before .before .before .before .before .before .before .loop-test .taken)) (lp .inv .3) (c .before .before .before .before .quad3 .ensures)),
     )
 
--- src/lib.rt:47:14
 mul-i : tie.Need-mul-i Inv-loop μ-loop Inv-loop2 μ-loop2
 mul-i c = omega (arith, c .before .before .before .before .before .before .before .good .0)
 
--- src/lib.rt:47:5
 loop2-holds : tie.Need-loop2-holds Inv-loop μ-loop Inv-loop2 μ-loop2
 loop2-holds c = (refl, refl, omega arith, λ f d. d)
 
--- src/lib.rt:48:9
 turn3-requires : tie.Need-turn3-requires Inv-loop μ-loop Inv-loop2 μ-loop2
 turn3-requires c κs = omega (arith, c .before .before .loop2-test .taken, c .before .before .before .loop2 .inv, c .before .before .before .before .before .loop .inv, c .before .before .before .before .before .before .before .before .before .before .before .pre)
 
--- src/lib.rt:47:9
 add-i : tie.Need-add-i Inv-loop μ-loop Inv-loop2 μ-loop2
 add-i c = omega (arith, c .before .before .before .before .before .before .before .loop2-test .taken, c .before .before .before .before .before .before .before .before .before .before .before .before .before .before .before .before .good .0)
 
--- src/lib.rt:47:5
 loop2-less : tie.Need-loop2-less Inv-loop μ-loop Inv-loop2 μ-loop2
 loop2-less c = omega (arith, c .before .before .before .before .before .before .before .loop2-test .taken)
 
--- src/lib.rt:47:5
 loop2-again : tie.Need-loop2-again Inv-loop μ-loop Inv-loop2 μ-loop2
 loop2-again c =
     let lp = c .before .before .before .before .before .before .before .before .loop2 in
@@ -104,15 +85,12 @@ loop2-again c =
       λ f d. done-more 3 (a .m) (beside3 (c .before .before .before .before .before .before .before .before .before .before .before .get .result) (at (a .tr .now) (a .ti .now)) (a .m)) (local3 (at (a .tr .now) (a .ti .now)) (a .m) (c .before .before .before .before .before .before .before .before .before .before .before .get .result)) inTurn (in-turn 3) 1 f (at (lp .re) (lp .im)) _ (lp .i) (omega (arith, c .before .before .before .before .before .before .before .loop2-test .taken)) (lp .inv .3 f d) (c .before .before .before .before .turn3 .ensures),
     )
 
--- src/lib.rt:39:1
 same-length : tie.Need-same-length Inv-loop μ-loop Inv-loop2 μ-loop2
 same-length c = c .before .loop2 .inv .0 ∙ c .before .before .before .loop .inv .0
 
--- src/lib.rt:39:1
 same-length-2 : tie.Need-same-length-2 Inv-loop μ-loop Inv-loop2 μ-loop2
 same-length-2 c = c .before .loop2 .inv .1 ∙ c .before .before .before .loop .inv .1
 
--- src/lib.rt:39:1
 returns : tie.Need-returns Inv-loop μ-loop Inv-loop2 μ-loop2
 returns c =
     let a = c .before .before .before .before .before .before .before .before .before .args in

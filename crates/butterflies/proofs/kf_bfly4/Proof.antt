@@ -1,3 +1,4 @@
+-- `butterflies::kf_bfly4` meets its contract. The invariant of both loops: the columns below the next are turned, the others are not. Assumes nothing.
 use mathlib.Core.Path.{_≡_, refl, _∙_, fun-ext}
 use Prim.Native.Nat.{ℕ, _+_, _*_, _-_, _/_, _≤_}
 use native.Mathlib.Omega.{arith}
@@ -11,10 +12,6 @@ use Rattle.butterflies.proofs.Columns.{Done, done-none, done-more, done
 use Rattle.butterflies.proofs.Local.{local4}
 use Rattle.butterflies.proofs.kf_bfly4.Statement.{statement}
 use Rattle.butterflies.proofs.kf_bfly4.Tie as tie
-use Rattle.butterflies.proofs.kf_bfly4.Reads as reads
-use Rattle.butterflies.proofs.kf_bfly4.Lts as lts
-use Rattle.quads.proofs.quad4.Reads as quad4-reads
-use Rattle.quads.proofs.turn4.Reads as turn4-reads
 
 abbrev Inv-loop : tie.InvT-loop
 Inv-loop re₀ im₀ tr ti m inverse q₀ q-end re im q = (length re ≡ length re₀) × (length im ≡ length im₀) × (q ≤ q-end) × Done 4 m (beside4 inverse (at tr ti) m) (at re₀ im₀) (at re im) (4 * q)
@@ -28,27 +25,21 @@ Inv-loop2 re₀ im₀ tr ti m inverse i₀ re im i = (length re ≡ length re₀
 abbrev μ-loop2 : tie.MeasureT-loop2
 μ-loop2 re₀ im₀ tr ti m inverse i₀ re im i = m - i
 
--- src/lib.rt:57:5
 loop-holds : tie.Need-loop-holds Inv-loop μ-loop Inv-loop2 μ-loop2
 loop-holds c = (refl, refl, omega arith, done-none _ _ _ _)
 
--- src/lib.rt:58:34
 mul-quad4 : tie.Need-mul-quad4 Inv-loop μ-loop Inv-loop2 μ-loop2
 mul-quad4 c = omega (arith, c .before .before .loop-test .taken, c .before .before .before .before .before .before .before .before .good .0)
 
--- src/lib.rt:58:9
 quad4-requires : tie.Need-quad4-requires Inv-loop μ-loop Inv-loop2 μ-loop2
 quad4-requires c κs = omega (arith, c .before .before .loop-test .taken, c .before .before .before .loop .inv, c .before .before .before .before .before .before .before .before .pre)
 
--- src/lib.rt:57:9
 add-q : tie.Need-add-q Inv-loop μ-loop Inv-loop2 μ-loop2
 add-q c = omega (arith, c .before .before .before .before .before .before .before .loop-test .taken, c .before .before .before .before .before .before .before .before .before .before .before .before .before .good .0)
 
--- src/lib.rt:57:5
 loop-less : tie.Need-loop-less Inv-loop μ-loop Inv-loop2 μ-loop2
 loop-less c = omega (arith, c .before .before .before .before .before .before .before .loop-test .taken)
 
--- src/lib.rt:57:5
 loop-again : tie.Need-loop-again Inv-loop μ-loop Inv-loop2 μ-loop2
 loop-again c =
     let lp = c .before .before .before .before .before .before .before .before .loop in
@@ -60,27 +51,21 @@ loop-again c =
       rw e (done-more 4 (a .m) (beside4 (a .inverse) (at (a .tr .now) (a .ti .now)) (a .m)) (local4 (at (a .tr .now) (a .ti .now)) (a .m) (a .inverse)) (exchanged (a .inverse)) (exchange (a .inverse)) 4 _ (at (lp .re) (lp .im)) _ (4 * lp .q) (omega (arith, c .before .before .before .before .before .before .before .loop-test .taken)) (lp .inv .3) (c .before .before .before .before .quad4 .ensures)),
     )
 
--- src/lib.rt:60:14
 mul-i : tie.Need-mul-i Inv-loop μ-loop Inv-loop2 μ-loop2
 mul-i c = omega (arith, c .before .before .before .before .before .before .good .0)
 
--- src/lib.rt:60:5
 loop2-holds : tie.Need-loop2-holds Inv-loop μ-loop Inv-loop2 μ-loop2
 loop2-holds c = (refl, refl, omega arith, λ f d. d)
 
--- src/lib.rt:61:9
 turn4-requires : tie.Need-turn4-requires Inv-loop μ-loop Inv-loop2 μ-loop2
 turn4-requires c κs = omega (arith, c .before .before .loop2-test .taken, c .before .before .before .loop2 .inv, c .before .before .before .before .before .loop .inv, c .before .before .before .before .before .before .before .before .before .before .pre)
 
--- src/lib.rt:60:9
 add-i : tie.Need-add-i Inv-loop μ-loop Inv-loop2 μ-loop2
 add-i c = omega (arith, c .before .before .before .before .before .before .before .loop2-test .taken, c .before .before .before .before .before .before .before .before .before .before .before .before .before .before .before .good .0)
 
--- src/lib.rt:60:5
 loop2-less : tie.Need-loop2-less Inv-loop μ-loop Inv-loop2 μ-loop2
 loop2-less c = omega (arith, c .before .before .before .before .before .before .before .loop2-test .taken)
 
--- src/lib.rt:60:5
 loop2-again : tie.Need-loop2-again Inv-loop μ-loop Inv-loop2 μ-loop2
 loop2-again c =
     let lp = c .before .before .before .before .before .before .before .before .loop2 in
@@ -91,15 +76,12 @@ loop2-again c =
       λ f d. done-more 4 (a .m) (beside4 (a .inverse) (at (a .tr .now) (a .ti .now)) (a .m)) (local4 (at (a .tr .now) (a .ti .now)) (a .m) (a .inverse)) (exchanged (a .inverse)) (exchange (a .inverse)) 1 f (at (lp .re) (lp .im)) _ (lp .i) (omega (arith, c .before .before .before .before .before .before .before .loop2-test .taken)) (lp .inv .3 f d) (c .before .before .before .before .turn4 .ensures),
     )
 
--- src/lib.rt:53:1
 same-length : tie.Need-same-length Inv-loop μ-loop Inv-loop2 μ-loop2
 same-length c = c .before .loop2 .inv .0 ∙ c .before .before .before .loop .inv .0
 
--- src/lib.rt:53:1
 same-length-2 : tie.Need-same-length-2 Inv-loop μ-loop Inv-loop2 μ-loop2
 same-length-2 c = c .before .loop2 .inv .1 ∙ c .before .before .before .loop .inv .1
 
--- src/lib.rt:53:1
 returns : tie.Need-returns Inv-loop μ-loop Inv-loop2 μ-loop2
 returns c =
     let a = c .before .before .before .before .before .before .before .before .args in

@@ -1,67 +1,51 @@
+-- `butterflies::kf_bfly5` meets its contract: each store writes one more of the five places. Assumes nothing.
 use mathlib.Core.Path.{_≡_, refl, ap, _∙_}
 use mathlib.Core.List.{[], _∷_}
 use Prim.Native.Nat.{ℕ, suc, _+_}
 use native.Mathlib.Omega.{arith}
+use borrow.Author.Needs.{needs}
 use Rattle.complex.specs.declared.Complex.{Complex}
 use Rattle.complex.specs.Complex.{at, upd}
 use Rattle.columns.specs.Column.{col, of5}
 use Rattle.quads.specs.Beside.{beside5}
 use Rattle.quads.specs.Rows.{writes}
 use Rattle.quads.proofs.Rows.{writes-more}
-use borrow.Author.Needs.{needs}
 use Rattle.butterflies.proofs.kf_bfly5.Statement.{statement}
 use Rattle.butterflies.proofs.kf_bfly5.Tie as tie
-use Rattle.butterflies.proofs.kf_bfly5.Reads as reads
-use Rattle.butterflies.proofs.kf_bfly5.Lts as lts
-use Rattle.butterflies.proofs.turned5.Reads as turned5-reads
-use Rattle.complex.proofs.get.Reads as get-reads
-use Rattle.complex.proofs.put.Reads as put-reads
 
--- src/lib.rt:83:24
 shared-slice-read-turned5 : tie.Need-shared-slice-read-turned5
 shared-slice-read-turned5 c = search needs
 
--- src/lib.rt:83:31
 get-requires : tie.Need-get-requires
 get-requires c κs = search needs
 
--- src/lib.rt:83:47
 get-requires-2 : tie.Need-get-requires-2
 get-requires-2 c κs = search needs
 
--- src/lib.rt:83:9
 turned5-requires : tie.Need-turned5-requires
 turned5-requires c κs = search needs
 
--- src/lib.rt:84:5
 put-requires : tie.Need-put-requires
 put-requires c κs = search needs
 
--- src/lib.rt:85:5
 put-requires-2 : tie.Need-put-requires-2
 put-requires-2 c κs = search needs
 
--- src/lib.rt:86:5
 put-requires-3 : tie.Need-put-requires-3
 put-requires-3 c κs = omega (arith, c .before .before .before .before .before .before .before .before .before .before .before .before .before .before .before .before .before .before .before .before .before .before .before .before .pre, c .before .before .before .before .before .before .before .before .before .before .before .before .before .put .kept, c .before .before .before .before .before .before .put2 .kept)
 
--- src/lib.rt:87:5
 put-requires-4 : tie.Need-put-requires-4
 put-requires-4 c κs = omega (arith, c .before .before .before .before .before .before .before .before .before .before .before .before .before .before .before .before .before .before .before .before .before .before .before .before .before .before .before .before .before .before .before .pre, c .before .before .before .before .before .before .before .before .before .before .before .before .before .before .before .before .before .before .before .before .put .kept, c .before .before .before .before .before .before .before .before .before .before .before .before .before .put2 .kept, c .before .before .before .before .before .before .put3 .kept)
 
--- src/lib.rt:88:5
 put-requires-5 : tie.Need-put-requires-5
 put-requires-5 c κs = omega (arith, c .before .before .before .before .before .before .before .before .before .before .before .before .before .before .before .before .before .before .before .before .before .before .before .before .before .before .before .before .before .before .before .before .before .before .before .before .before .before .pre, c .before .before .before .before .before .before .before .before .before .before .before .before .before .before .before .before .before .before .before .before .before .before .before .before .before .before .before .put .kept, c .before .before .before .before .before .before .before .before .before .before .before .before .before .before .before .before .before .before .before .before .put2 .kept, c .before .before .before .before .before .before .before .before .before .before .before .before .before .put3 .kept, c .before .before .before .before .before .before .put4 .kept)
 
--- src/lib.rt:79:1
 same-length : tie.Need-same-length
 same-length c = search needs
 
--- src/lib.rt:79:1
 same-length-2 : tie.Need-same-length-2
 same-length-2 c = search needs
 
--- src/lib.rt:79:1
 returns : tie.Need-returns
 unfolding beside5
 returns c =

@@ -1,68 +1,51 @@
+-- `kf_work::kf_bfly` meets its contract: each arm knows its radix. Assumes nothing.
 use mathlib.Core.Path.{_≡_}
-use Prim.Native.Nat.{ℕ, _+_, _*_, _≤_}
 use native.Mathlib.Omega.{arith}
+use borrow.Author.Needs.{needs}
 use Rattle.kf_work.specs.Packed.{packedColumn}
 use Rattle.kf_work.proofs.Plan.{at-radix}
-use borrow.Author.Needs.{needs}
 use Rattle.kf_work.proofs.kf_bfly.Statement.{statement}
 use Rattle.kf_work.proofs.kf_bfly.Tie as tie
-use Rattle.kf_work.proofs.kf_bfly.Reads as reads
-use Rattle.kf_work.proofs.kf_bfly.Lts as lts
-use Rattle.butterflies.proofs.kf_bfly2.Reads as kf-bfly2-reads
-use Rattle.butterflies.proofs.kf_bfly3.Reads as kf-bfly3-reads
-use Rattle.butterflies.proofs.kf_bfly4.Reads as kf-bfly4-reads
 
 -- none of the other radixes
 last : (c : tie.At-match-rest) → c .before .before .before .before .before .args .p ≡ 4
 last c = omega (arith, c .match .rest .1, c .match .rest .0 .1, c .before .before .before .before .before .pre)
 
--- src/lib.rt:74:14
 kf-bfly2-requires : tie.Need-kf-bfly2-requires
 kf-bfly2-requires c κs = omega (arith, at-radix _ 2 _ _ _ _ _ (c .before .before .match .keys1) (c .before .before .before .before .before .before .before .pre .3) (c .before .before .before .before .before .before .before .pre .4) (c .before .before .before .before .before .before .before .pre .5) (c .before .before .before .before .before .before .before .pre .6), c .before .before .before .before .before .before .before .pre .2)
 
--- src/lib.rt:75:14
 kf-bfly3-requires : tie.Need-kf-bfly3-requires
 kf-bfly3-requires c κs = omega (arith, at-radix _ 3 _ _ _ _ _ (c .before .before .match .keys2) (c .before .before .before .before .before .before .before .pre .3) (c .before .before .before .before .before .before .before .pre .4) (c .before .before .before .before .before .before .before .pre .5) (c .before .before .before .before .before .before .before .pre .6), c .before .before .before .before .before .before .before .pre .2)
 
--- src/lib.rt:76:14
 kf-bfly4-requires : tie.Need-kf-bfly4-requires
 kf-bfly4-requires c κs = omega (arith, at-radix _ 4 _ _ _ _ _ (last (c .before .before)) (c .before .before .before .before .before .before .before .pre .3) (c .before .before .before .before .before .before .before .pre .4) (c .before .before .before .before .before .before .before .pre .5) (c .before .before .before .before .before .before .before .pre .6), c .before .before .before .before .before .before .before .pre .2)
 
--- src/lib.rt:61:1
 same-length : tie.Need-same-length
 same-length c = search needs
 
--- src/lib.rt:61:1
 same-length-2 : tie.Need-same-length-2
 same-length-2 c = search needs
 
--- src/lib.rt:61:1
 returns : tie.Need-returns
 unfolding packedColumn
 returns c = rw (c .before .before .before .before .before .before .before .match .keys1) (c .before .before .before .before .kf-bfly2 .ensures)
 
--- src/lib.rt:61:1
 same-length-3 : tie.Need-same-length-3
 same-length-3 c = search needs
 
--- src/lib.rt:61:1
 same-length-4 : tie.Need-same-length-4
 same-length-4 c = search needs
 
--- src/lib.rt:61:1
 returns-2 : tie.Need-returns-2
 unfolding packedColumn
 returns-2 c = rw (c .before .before .before .before .before .before .before .match .keys2) (c .before .before .before .before .kf-bfly3 .ensures)
 
--- src/lib.rt:61:1
 same-length-5 : tie.Need-same-length-5
 same-length-5 c = search needs
 
--- src/lib.rt:61:1
 same-length-6 : tie.Need-same-length-6
 same-length-6 c = search needs
 
--- src/lib.rt:61:1
 returns-3 : tie.Need-returns-3
 unfolding packedColumn
 returns-3 c = rw (last (c .before .before .before .before .before .before .before)) (c .before .before .before .before .kf-bfly4 .ensures)

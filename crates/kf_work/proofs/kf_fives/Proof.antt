@@ -1,62 +1,44 @@
-use mathlib.Core.Path.{_≡_}
-use native.Mathlib.Omega.{arith}
-use Rattle.kf_work.specs.Packed.{packedColumn}
+-- `kf_work::kf_fives` meets its contract: each arm knows its radix. Assumes nothing.
 use borrow.Author.Needs.{needs}
+use Rattle.kf_work.specs.Packed.{packedColumn}
 use Rattle.kf_work.proofs.kf_fives.Statement.{statement}
 use Rattle.kf_work.proofs.kf_fives.Tie as tie
-use Rattle.kf_work.proofs.kf_fives.Reads as reads
-use Rattle.kf_work.proofs.kf_fives.Lts as lts
-use Rattle.butterflies.proofs.fives2.Reads as fives2-reads
-use Rattle.butterflies.proofs.fives3.Reads as fives3-reads
-use Rattle.kf_work.proofs.kf_bfly.Reads as kf-bfly-reads
 
--- src/lib.rt:88:14
 fives2-requires : tie.Need-fives2-requires
 fives2-requires c κs = search needs
 
--- src/lib.rt:89:14
 fives3-requires : tie.Need-fives3-requires
 fives3-requires c κs = search needs
 
--- src/lib.rt:90:14
 kf-bfly-requires : tie.Need-kf-bfly-requires
 kf-bfly-requires c κs = search needs
 
--- src/lib.rt:83:1
 same-length : tie.Need-same-length
 same-length c = search needs
 
--- src/lib.rt:83:1
 same-length-2 : tie.Need-same-length-2
 same-length-2 c = search needs
 
--- src/lib.rt:83:1
 returns : tie.Need-returns
 unfolding packedColumn
 returns c = rw (c .before .before .before .before .before .before .before .match .keys1) (c .before .before .before .before .fives2 .ensures)
 
--- src/lib.rt:83:1
 same-length-3 : tie.Need-same-length-3
 same-length-3 c = search needs
 
--- src/lib.rt:83:1
 same-length-4 : tie.Need-same-length-4
 same-length-4 c = search needs
 
--- src/lib.rt:83:1
 returns-2 : tie.Need-returns-2
 unfolding packedColumn
 returns-2 c = rw (c .before .before .before .before .before .before .before .match .keys2) (c .before .before .before .before .fives3 .ensures)
 
--- src/lib.rt:83:1
 same-length-5 : tie.Need-same-length-5
 same-length-5 c = search needs
 
--- src/lib.rt:83:1
 same-length-6 : tie.Need-same-length-6
 same-length-6 c = search needs
 
--- src/lib.rt:83:1
 returns-3 : tie.Need-returns-3
 returns-3 c = search needs
 

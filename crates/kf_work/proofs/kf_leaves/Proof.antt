@@ -1,6 +1,6 @@
+-- `kf_work::kf_leaves` meets its contract. The loop's invariant: the first q innermost stages are done. Assumes nothing.
 use mathlib.Core.Path.{_≡_, refl, _∙_}
-use Prim.Native.Nat.{ℕ, _+_, _*_, _-_, _≤_}
-use native.Mathlib.Nat.{mul-le-mul-right}
+use Prim.Native.Nat.{_+_, _*_, _-_, _≤_}
 use native.Mathlib.Omega.{arith}
 use lib.ListN.{length, getD}
 use borrow.Author.Needs.{needs}
@@ -14,10 +14,6 @@ use Rattle.kf_work.proofs.Parts.{call-done}
 use Rattle.kf_work.proofs.Leaves.{leaf-done, leaf-in}
 use Rattle.kf_work.proofs.kf_leaves.Statement.{statement}
 use Rattle.kf_work.proofs.kf_leaves.Tie as tie
-use Rattle.kf_work.proofs.kf_leaves.Reads as reads
-use Rattle.kf_work.proofs.kf_leaves.Lts as lts
-use Rattle.butterflies.proofs.kf_bfly5.Reads as kf-bfly5-reads
-use Rattle.kf_work.proofs.copied.Reads as copied-reads
 
 abbrev Inv-loop : tie.InvT-loop
 Inv-loop re₀ im₀ x y tr ti plan fstride from s q₀ re im q = (length re ≡ length re₀) × (length im ≡ length im₀) × (q ≤ getD plan 0 0) × (s ≡ fstride * getD plan 0 0) × (at re im ≡ within (q * 5) (blocks (innermost (at tr ti) (at x y) (fstride * getD plan 0 0)) 5 fstride from) (at re₀ im₀))
@@ -25,87 +21,66 @@ Inv-loop re₀ im₀ x y tr ti plan fstride from s q₀ re im q = (length re ≡
 abbrev μ-loop : tie.MeasureT-loop
 μ-loop re₀ im₀ x y tr ti plan fstride from s q₀ re im q = getD plan 0 0 - q
 
--- src/lib.rt:51:23
 shared-slice-read-s : tie.Need-shared-slice-read-s Inv-loop μ-loop
 shared-slice-read-s c = omega (arith, c .before .before .before .before .before .before .before .before .pre .0)
 
--- src/lib.rt:51:13
 mul-s : tie.Need-mul-s Inv-loop μ-loop
 mul-s c = omega (arith, c .before .before .before .before .before .before .before .before .pre .2, c .before .before .before .before .before .before .before .before .good)
 
--- src/lib.rt:53:5
 loop-holds : tie.Need-loop-holds Inv-loop μ-loop
 loop-holds c = (refl, refl, omega arith, refl, within-zero 5 _ _)
 
--- src/lib.rt:53:15
 shared-slice-read-if1 : tie.Need-shared-slice-read-if1 Inv-loop μ-loop
 shared-slice-read-if1 c = omega (arith, c .before .before .before .before .before .before .before .before .before .before .pre .0)
 
--- src/lib.rt:54:45
 mul-copied : tie.Need-mul-copied Inv-loop μ-loop
 mul-copied c = omega (arith, leaf-in (c .before .before .before .before .before .before .before .before .before .before .before .args .fstride) _ _ _ _ (c .before .before .before .before .before .before .before .before .before .before .before .pre .1) (c .if1 .taken) (c .before .before .before .before .before .before .before .before .before .before .before .pre .2), c .before .before .before .before .before .before .before .before .before .before .before .good)
 
--- src/lib.rt:54:38
 add-copied : tie.Need-add-copied Inv-loop μ-loop
 add-copied c = omega (arith, leaf-in (c .before .before .before .before .before .before .before .before .before .before .before .args .fstride) _ _ _ _ (c .before .before .before .before .before .before .before .before .before .before .before .pre .1) (c .if1 .taken) (c .before .before .before .before .before .before .before .before .before .before .before .pre .2), c .before .before .before .before .before .before .before .before .before .before .before .good)
 
--- src/lib.rt:54:13
 copied-requires : tie.Need-copied-requires Inv-loop μ-loop
 copied-requires c κs = omega (arith, leaf-in (c .before .before .before .before .before .before .before .before .before .before .before .args .fstride) _ _ _ _ (c .before .before .before .before .before .before .before .before .before .before .before .pre .1) (c .if1 .taken) (c .before .before .before .before .before .before .before .before .before .before .before .pre .2), leaf-in (c .before .before .before .before .before .before .before .before .before .before .before .args .fstride) _ _ _ _ (c .before .before .before .before .before .before .before .before .before .before .before .pre .1) (c .if1 .taken) (c .before .before .before .before .before .before .before .before .before .before .before .pre .3), c .before .before .loop .inv .3)
 
--- src/lib.rt:55:26
 mul-kf-bfly5 : tie.Need-mul-kf-bfly5 Inv-loop μ-loop
 mul-kf-bfly5 c = search needs
 
--- src/lib.rt:55:18
 mul-kf-bfly5-2 : tie.Need-mul-kf-bfly5-2 Inv-loop μ-loop
 mul-kf-bfly5-2 c = search needs
 
--- src/lib.rt:55:18
 sub-kf-bfly5 : tie.Need-sub-kf-bfly5 Inv-loop μ-loop
 sub-kf-bfly5 c = search needs
 
--- src/lib.rt:55:18
 part-kf-bfly5-start : tie.Need-part-kf-bfly5-start Inv-loop μ-loop
 part-kf-bfly5-start c = search needs
 
--- src/lib.rt:55:18
 part-kf-bfly5-end : tie.Need-part-kf-bfly5-end Inv-loop μ-loop
 part-kf-bfly5-end c = search needs
 
--- src/lib.rt:55:44
 mul-kf-bfly5-3 : tie.Need-mul-kf-bfly5-3 Inv-loop μ-loop
 mul-kf-bfly5-3 c = search needs
 
--- src/lib.rt:55:36
 mul-kf-bfly5-4 : tie.Need-mul-kf-bfly5-4 Inv-loop μ-loop
 mul-kf-bfly5-4 c = search needs
 
--- src/lib.rt:55:36
 sub-kf-bfly5-2 : tie.Need-sub-kf-bfly5-2 Inv-loop μ-loop
 sub-kf-bfly5-2 c = search needs
 
--- src/lib.rt:55:36
 part-kf-bfly5-start-2 : tie.Need-part-kf-bfly5-start-2 Inv-loop μ-loop
 part-kf-bfly5-start-2 c = search needs
 
--- src/lib.rt:55:36
 part-kf-bfly5-end-2 : tie.Need-part-kf-bfly5-end-2 Inv-loop μ-loop
 part-kf-bfly5-end-2 c = search needs
 
--- src/lib.rt:55:9
 kf-bfly5-requires : tie.Need-kf-bfly5-requires Inv-loop μ-loop
 kf-bfly5-requires c κs = omega (arith, c .before .before .before .if1 .taken, c .before .before .before .before .before .loop .inv .0, c .before .before .before .before .before .loop .inv .1, c .before .before .before .before .before .before .before .before .before .before .before .before .before .before .pre)
 
--- src/lib.rt:56:9
 add-q : tie.Need-add-q Inv-loop μ-loop
 add-q c = omega (arith, c .before .before .before .before .before .before .before .before .if1 .taken, c .before .before .before .before .before .before .before .before .before .before .before .before .before .before .before .before .before .before .before .pre, c .before .before .before .before .before .before .before .before .before .before .before .before .before .before .before .before .before .before .before .good)
 
--- src/lib.rt:53:5
 loop-less : tie.Need-loop-less Inv-loop μ-loop
 loop-less c = omega (arith, c .before .before .before .before .before .before .before .before .if1 .taken)
 
--- src/lib.rt:53:5
 loop-again : tie.Need-loop-again Inv-loop μ-loop
 loop-again c =
     let lp = c .before .before .before .before .before .before .before .before .before .before .loop in
@@ -123,15 +98,12 @@ loop-again c =
           (leaf-done u x s o _ _ _ read (c .before .before .before .before .kf-bfly5 .ensures)),
     )
 
--- src/lib.rt:37:1
 same-length : tie.Need-same-length Inv-loop μ-loop
 same-length c = c .before .before .loop .inv .0
 
--- src/lib.rt:37:1
 same-length-2 : tie.Need-same-length-2 Inv-loop μ-loop
 same-length-2 c = c .before .before .loop .inv .1
 
--- src/lib.rt:37:1
 returns : tie.Need-returns Inv-loop μ-loop
 returns c =
     let past : c .before .before .loop .q ≡ getD (c .before .before .before .before .before .before .before .before .before .before .before .args .plan .now) 0 0 = omega (arith, c .before .before .loop .inv .2, c .if1 .left) in

@@ -1,30 +1,24 @@
-use mathlib.Core.Path.{sym, _∙_}
+-- `kf_work::transform` meets its contract: the factors that are lent are the plan of an accepted size. Assumes nothing.
+use mathlib.Core.Path.{_∙_}
 use native.Mathlib.Omega.{arith}
+use borrow.Author.Needs.{needs}
 use Rattle.complex.specs.Complex.{at}
 use Rattle.kf_work.proofs.Sizes.{sized, by-plan}
-use borrow.Author.Needs.{needs}
 use Rattle.kf_work.proofs.transform.Statement.{statement}
 use Rattle.kf_work.proofs.transform.Tie as tie
-use Rattle.kf_work.proofs.transform.Reads as reads
-use Rattle.kf_work.proofs.transform.Lts as lts
-use Rattle.kf_work.proofs.kf_work.Reads as kf-work-reads
 
--- src/lib.rt:137:5
 kf-work-requires : tie.Need-kf-work-requires
 kf-work-requires c κs =
     let st = c .before .before .before .before .before .before .before .before .before in
     let s = sized _ (st .pre .0) in
     rw (st .pre .4) (s .plan-radixes, s .plan-fives, s .stages, omega arith, omega (arith, s .whole), omega (arith, s .whole, st .pre .1), omega (arith, s .whole, st .pre .2), omega (arith, s .whole, st .pre .3), omega (arith, s .whole, st .pre .5), omega (arith, s .whole, st .pre .6))
 
--- src/lib.rt:124:1
 same-length : tie.Need-same-length
 same-length c = search needs
 
--- src/lib.rt:124:1
 same-length-2 : tie.Need-same-length-2
 same-length-2 c = search needs
 
--- src/lib.rt:124:1
 returns : tie.Need-returns
 returns c =
     let st = c .before .before .before .before .before .before .before .before .before .before .before .before .before .before in

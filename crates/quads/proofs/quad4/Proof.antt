@@ -1,8 +1,10 @@
+-- `quads::quad4` meets its contract: each row writes one more part of the four columns, the second and the fourth where the direction has them. Assumes nothing.
 use mathlib.Core.Path.{_≡_, refl, ap, _∙_}
 use mathlib.Core.Bool.{false}
 use mathlib.Core.List.{[], _∷_}
 use Prim.Native.Nat.{ℕ, _+_, _*_}
 use native.Mathlib.Omega.{arith}
+use borrow.Author.Needs.{needs}
 use Rattle.complex.specs.declared.Complex.{Complex}
 use Rattle.complex.specs.Complex.{at}
 use Rattle.laws.specs.Lists.{tab}
@@ -11,100 +13,72 @@ use Rattle.quads.specs.Beside.{beside4}
 use Rattle.quads.specs.Rows.{exchanged}
 use Rattle.quads.proofs.Rows.{rows-more}
 use Rattle.quads.proofs.Read.{ordered, exchange4, exchanged-0, exchanged-2, sides}
-use borrow.Author.Needs.{needs}
 use Rattle.quads.proofs.quad4.Statement.{statement}
 use Rattle.quads.proofs.quad4.Tie as tie
-use Rattle.quads.proofs.quad4.Reads as reads
-use Rattle.quads.proofs.quad4.Lts as lts
-use Rattle.quads.proofs.row.Reads as row-reads
-use Rattle.quads.proofs.second.Reads as second-reads
-use Rattle.quads.proofs.turned4.Reads as turned4-reads
 
--- src/lib.rt:172:9
 turned4-requires : tie.Need-turned4-requires
 turned4-requires c κs = omega (arith, c .before .before .before .before .before .before .good .0, c .before .before .before .before .before .before .pre)
 
--- src/lib.rt:173:40
 add-turned4 : tie.Need-add-turned4
 add-turned4 c = omega (arith, c .before .before .before .before .before .before .before .before .before .good .0, c .before .before .before .before .before .before .before .before .before .pre)
 
--- src/lib.rt:173:9
 turned4-requires-2 : tie.Need-turned4-requires-2
 turned4-requires-2 c κs = omega (arith, c .before .before .before .before .before .before .before .before .before .good .0, c .before .before .before .before .before .before .before .before .before .pre)
 
--- src/lib.rt:174:40
 add-turned4-2 : tie.Need-add-turned4-2
 add-turned4-2 c = omega (arith, c .before .before .before .before .before .before .before .before .before .before .before .before .good .0, c .before .before .before .before .before .before .before .before .before .before .before .before .pre)
 
--- src/lib.rt:174:9
 turned4-requires-3 : tie.Need-turned4-requires-3
 turned4-requires-3 c κs = omega (arith, c .before .before .before .before .before .before .before .before .before .before .before .before .good .0, c .before .before .before .before .before .before .before .before .before .before .before .before .pre)
 
--- src/lib.rt:175:40
 add-turned4-3 : tie.Need-add-turned4-3
 add-turned4-3 c = omega (arith, c .before .before .before .before .before .before .before .before .before .before .before .before .before .before .before .good .0, c .before .before .before .before .before .before .before .before .before .before .before .before .before .before .before .pre)
 
--- src/lib.rt:175:9
 turned4-requires-4 : tie.Need-turned4-requires-4
 turned4-requires-4 c κs = omega (arith, c .before .before .before .before .before .before .before .before .before .before .before .before .before .before .before .good .0, c .before .before .before .before .before .before .before .before .before .before .before .before .before .before .before .pre)
 
--- src/lib.rt:176:9
 second-requires : tie.Need-second-requires
 second-requires c κs = search needs
 
--- src/lib.rt:177:18
 sub-fourth : tie.Need-sub-fourth
 sub-fourth c = omega (arith, sides _ (c .before .before .before .before .before .before .before .before .before .before .before .before .before .before .before .before .before .args .m) _ (c .second .ensures))
 
--- src/lib.rt:178:5
 row-requires : tie.Need-row-requires
 row-requires c κs = omega (arith, c .before .before .before .before .before .before .before .before .before .before .before .before .before .before .before .before .before .before .before .good .0, c .before .before .before .before .before .before .before .before .before .before .before .before .before .before .before .before .before .before .before .pre)
 
--- src/lib.rt:179:21
 mul-row : tie.Need-mul-row
 mul-row c = omega (arith, c .before .before .before .before .before .before .before .before .before .before .before .before .before .before .before .before .before .before .before .before .before .before .before .before .before .before .good .0, c .before .before .before .before .before .before .before .before .before .before .before .before .before .before .before .before .before .before .before .before .before .before .before .before .before .before .pre, sides _ (c .before .before .before .before .before .before .before .before .before .before .before .before .before .before .before .before .before .before .before .before .before .before .before .before .before .before .args .m) _ (c .before .before .before .before .before .before .before .before .before .second .ensures))
 
--- src/lib.rt:179:17
 add-row : tie.Need-add-row
 add-row c = omega (arith, c .before .before .before .before .before .before .before .before .before .before .before .before .before .before .before .before .before .before .before .before .before .before .before .before .before .before .good .0, c .before .before .before .before .before .before .before .before .before .before .before .before .before .before .before .before .before .before .before .before .before .before .before .before .before .before .pre, sides _ (c .before .before .before .before .before .before .before .before .before .before .before .before .before .before .before .before .before .before .before .before .before .before .before .before .before .before .args .m) _ (c .before .before .before .before .before .before .before .before .before .second .ensures))
 
--- src/lib.rt:179:5
 row-requires-2 : tie.Need-row-requires-2
 row-requires-2 c κs = omega (arith, c .before .before .before .before .before .before .before .before .before .before .before .before .before .before .before .before .before .before .before .before .before .before .before .before .before .before .good .0, c .before .before .before .before .before .before .before .before .before .before .before .before .before .before .before .before .before .before .before .before .before .before .before .before .before .before .pre, sides _ (c .before .before .before .before .before .before .before .before .before .before .before .before .before .before .before .before .before .before .before .before .before .before .before .before .before .before .args .m) _ (c .before .before .before .before .before .before .before .before .before .second .ensures), c .before .before .before .before .before .before .row .kept)
 
--- src/lib.rt:180:21
 mul-row-2 : tie.Need-mul-row-2
 mul-row-2 c = omega (arith, c .before .before .before .before .before .before .before .before .before .before .before .before .before .before .before .before .before .before .before .before .before .before .before .before .before .before .before .before .before .before .before .before .before .good .0, c .before .before .before .before .before .before .before .before .before .before .before .before .before .before .before .before .before .before .before .before .before .before .before .before .before .before .before .before .before .before .before .before .before .pre)
 
--- src/lib.rt:180:17
 add-row-2 : tie.Need-add-row-2
 add-row-2 c = omega (arith, c .before .before .before .before .before .before .before .before .before .before .before .before .before .before .before .before .before .before .before .before .before .before .before .before .before .before .before .before .before .before .before .before .before .good .0, c .before .before .before .before .before .before .before .before .before .before .before .before .before .before .before .before .before .before .before .before .before .before .before .before .before .before .before .before .before .before .before .before .before .pre)
 
--- src/lib.rt:180:5
 row-requires-3 : tie.Need-row-requires-3
 row-requires-3 c κs = omega (arith, c .before .before .before .before .before .before .before .before .before .before .before .before .before .before .before .before .before .before .before .before .before .before .before .before .before .before .before .before .before .before .before .before .before .good .0, c .before .before .before .before .before .before .before .before .before .before .before .before .before .before .before .before .before .before .before .before .before .before .before .before .before .before .before .before .before .before .before .before .before .pre, c .before .before .before .before .before .before .before .before .before .before .before .before .before .row .kept, c .before .before .before .before .before .before .row2 .kept)
 
--- src/lib.rt:181:21
 mul-row-3 : tie.Need-mul-row-3
 mul-row-3 c = omega (arith, c .before .before .before .before .before .before .before .before .before .before .before .before .before .before .before .before .before .before .before .before .before .before .before .before .before .before .before .before .before .before .before .before .before .before .before .before .before .before .before .before .good .0, c .before .before .before .before .before .before .before .before .before .before .before .before .before .before .before .before .before .before .before .before .before .before .before .before .before .before .before .before .before .before .before .before .before .before .before .before .before .before .before .before .pre, sides _ (c .before .before .before .before .before .before .before .before .before .before .before .before .before .before .before .before .before .before .before .before .before .before .before .before .before .before .before .before .before .before .before .before .before .before .before .before .before .before .before .before .args .m) _ (c .before .before .before .before .before .before .before .before .before .before .before .before .before .before .before .before .before .before .before .before .before .before .before .second .ensures))
 
--- src/lib.rt:181:17
 add-row-3 : tie.Need-add-row-3
 add-row-3 c = omega (arith, c .before .before .before .before .before .before .before .before .before .before .before .before .before .before .before .before .before .before .before .before .before .before .before .before .before .before .before .before .before .before .before .before .before .before .before .before .before .before .before .before .good .0, c .before .before .before .before .before .before .before .before .before .before .before .before .before .before .before .before .before .before .before .before .before .before .before .before .before .before .before .before .before .before .before .before .before .before .before .before .before .before .before .before .pre, sides _ (c .before .before .before .before .before .before .before .before .before .before .before .before .before .before .before .before .before .before .before .before .before .before .before .before .before .before .before .before .before .before .before .before .before .before .before .before .before .before .before .before .args .m) _ (c .before .before .before .before .before .before .before .before .before .before .before .before .before .before .before .before .before .before .before .before .before .before .before .second .ensures))
 
--- src/lib.rt:181:5
 row-requires-4 : tie.Need-row-requires-4
 row-requires-4 c κs = omega (arith, c .before .before .before .before .before .before .before .before .before .before .before .before .before .before .before .before .before .before .before .before .before .before .before .before .before .before .before .before .before .before .before .before .before .before .before .before .before .before .before .before .good .0, c .before .before .before .before .before .before .before .before .before .before .before .before .before .before .before .before .before .before .before .before .before .before .before .before .before .before .before .before .before .before .before .before .before .before .before .before .before .before .before .before .pre, sides _ (c .before .before .before .before .before .before .before .before .before .before .before .before .before .before .before .before .before .before .before .before .before .before .before .before .before .before .before .before .before .before .before .before .before .before .before .before .before .before .before .before .args .m) _ (c .before .before .before .before .before .before .before .before .before .before .before .before .before .before .before .before .before .before .before .before .before .before .before .second .ensures), c .before .before .before .before .before .before .before .before .before .before .before .before .before .before .before .before .before .before .before .before .row .kept, c .before .before .before .before .before .before .before .before .before .before .before .before .before .row2 .kept, c .before .before .before .before .before .before .row3 .kept)
 
--- src/lib.rt:160:1
 same-length : tie.Need-same-length
 same-length c = search needs
 
--- src/lib.rt:160:1
 same-length-2 : tie.Need-same-length-2
 same-length-2 c = search needs
 
--- src/lib.rt:160:1
 returns : tie.Need-returns
 unfolding tab
 returns c =

@@ -1,46 +1,36 @@
+-- `quads::turn2` meets its contract: each store writes one more part of the column. Assumes nothing.
 use mathlib.Core.Path.{_≡_, refl}
 use Prim.Native.Nat.{ℕ, _+_, _*_}
 use native.Mathlib.Nat.{add-zero}
 use native.Mathlib.Omega.{arith}
+use borrow.Author.Needs.{needs}
 use Rattle.complex.specs.declared.Complex.{Complex}
 use Rattle.complex.specs.Complex.{at}
 use Rattle.columns.specs.Column.{of2}
 use Rattle.quads.specs.Beside.{beside2}
 use Rattle.quads.specs.Rows.{inTurn}
 use Rattle.quads.proofs.Rows.{rows-one}
-use borrow.Author.Needs.{needs}
 use Rattle.quads.proofs.turn2.Statement.{statement}
 use Rattle.quads.proofs.turn2.Tie as tie
-use Rattle.quads.proofs.turn2.Reads as reads
-use Rattle.quads.proofs.turn2.Lts as lts
-use Rattle.complex.proofs.put.Reads as put-reads
-use Rattle.quads.proofs.turned2.Reads as turned2-reads
 
--- src/lib.rt:66:9
 turned2-requires : tie.Need-turned2-requires
 turned2-requires c κs = search needs
 
--- src/lib.rt:67:5
 put-requires : tie.Need-put-requires
 put-requires c κs = search needs
 
--- src/lib.rt:68:17
 add-put : tie.Need-add-put
 add-put c = search needs
 
--- src/lib.rt:68:5
 put-requires-2 : tie.Need-put-requires-2
 put-requires-2 c κs = search needs
 
--- src/lib.rt:62:1
 same-length : tie.Need-same-length
 same-length c = search needs
 
--- src/lib.rt:62:1
 same-length-2 : tie.Need-same-length-2
 same-length-2 c = search needs
 
--- src/lib.rt:62:1
 returns : tie.Need-returns
 returns c =
     let a = c .before .before .before .before .before .before .before .before .before .before .before .before .before .before .before .before .before .before .before .before .before .args in

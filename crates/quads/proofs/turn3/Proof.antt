@@ -1,58 +1,45 @@
+-- `quads::turn3` meets its contract: each store writes one more part of the column. Assumes nothing.
 use mathlib.Core.Path.{_≡_, refl}
 use Prim.Native.Nat.{ℕ, _+_, _*_}
 use native.Mathlib.Nat.{add-zero}
 use native.Mathlib.Omega.{arith}
+use borrow.Author.Needs.{needs}
 use Rattle.complex.specs.declared.Complex.{Complex}
 use Rattle.complex.specs.Complex.{at}
 use Rattle.columns.specs.Column.{of3}
 use Rattle.quads.specs.Beside.{beside3}
 use Rattle.quads.specs.Rows.{inTurn}
 use Rattle.quads.proofs.Rows.{rows-one}
-use borrow.Author.Needs.{needs}
 use Rattle.quads.proofs.turn3.Statement.{statement}
 use Rattle.quads.proofs.turn3.Tie as tie
-use Rattle.quads.proofs.turn3.Reads as reads
-use Rattle.quads.proofs.turn3.Lts as lts
-use Rattle.complex.proofs.put.Reads as put-reads
-use Rattle.quads.proofs.turned3.Reads as turned3-reads
 
--- src/lib.rt:99:9
 turned3-requires : tie.Need-turned3-requires
 turned3-requires c κs = search needs
 
--- src/lib.rt:100:5
 put-requires : tie.Need-put-requires
 put-requires c κs = search needs
 
--- src/lib.rt:101:17
 add-put : tie.Need-add-put
 add-put c = search needs
 
--- src/lib.rt:101:5
 put-requires-2 : tie.Need-put-requires-2
 put-requires-2 c κs = search needs
 
--- src/lib.rt:102:21
 mul-put : tie.Need-mul-put
 mul-put c = search needs
 
--- src/lib.rt:102:17
 add-put-2 : tie.Need-add-put-2
 add-put-2 c = search needs
 
--- src/lib.rt:102:5
 put-requires-3 : tie.Need-put-requires-3
 put-requires-3 c κs = search needs
 
--- src/lib.rt:95:1
 same-length : tie.Need-same-length
 same-length c = search needs
 
--- src/lib.rt:95:1
 same-length-2 : tie.Need-same-length-2
 same-length-2 c = search needs
 
--- src/lib.rt:95:1
 returns : tie.Need-returns
 returns c =
     let a = c .before .before .before .before .before .before .before .before .before .before .before .before .before .before .before .before .before .before .before .before .before .before .before .before .before .before .before .before .args in
