@@ -29,7 +29,7 @@ use Rattle.kf_work.proofs.Sizes as plans
 use Rattle.twiddles.specs.Tables.{sizes, fftReBits}
 use Rattle.twiddles.specs.Twiddles.{start, fftRe, fftIm, fftImOf, twiddle}
 use Rattle.twiddles.proofs.Sizes.{same-sizes, sized, Halved, halved}
-use Rattle.fft_tables.specs.FftTables.{order, read, packedRe, packedIm, packedImOf, packedTable, packedDirected}
+use Rattle.fft_tables.specs.FftTables.{order, read, packedRe, packedIm, packedImOf, packedTable, packedDirected, AllPacked}
 
 -- a plan with a stage is of 2 or more
 span-two : (p : ℕ) (ps : List ℕ) → T (planned (p ∷ ps)) → 2 ≤ span (p ∷ ps)
@@ -188,3 +188,6 @@ module _ (n : ℕ) (s : T (among fftSizes n)) where
 pub packed-forward : (n : ℕ) → packedTable n ≡ packedDirected false n
 unfolding packedTable packedDirected packedImOf
 packed-forward n = refl
+
+pub all-packed : AllPacked
+all-packed = packs

@@ -2,11 +2,15 @@
 use mathlib.Core.Bool.{Bool, true, false}
 use mathlib.Core.List.{List, [], _∷_, _++_, map}
 use Prim.Native.Nat.{ℕ, suc, _*_, _-_, _/_, _%_}
+use lib.Dec.{T}
 use lib.ListN.{getD}
 use lib.Ieee.{Float, nan, neg}
 use Rattle.laws.specs.Lists.{tab}
+use Rattle.complex.specs.Complex.{at}
+use Rattle.config.specs.Config.{among, fftSizes}
 use Rattle.kf_work.specs.Work.{plan}
-use Rattle.twiddles.specs.Twiddles.{fftRe, fftIm}
+use Rattle.kf_work.specs.Packed.{Packed}
+use Rattle.twiddles.specs.Twiddles.{fftRe, fftIm, twiddle}
 
 -- Which twiddle stands where, at stride s: of each stage twiddle q j s at place j of part q, one part after the other, then those of the rest of the plan.
 -- The innermost stage reads no turn, a fifth and two fifths.
@@ -39,3 +43,7 @@ packedImOf true n = map neg (packedIm n)
 -- the table of size n as the direction has it
 unfoldable pub packedDirected : Bool → ℕ → List Float
 packedDirected inverse n = packedRe n ++ packedImOf inverse n
+
+-- at every size, forward and inverse, the packed table has at each place the twiddle that its stage reads there
+abbrev pub AllPacked : Type 0
+AllPacked = (n : ℕ) → T (among fftSizes n) → (inverse : Bool) → Packed (twiddle n inverse) (plan n) 1 (at (packedRe n) (packedImOf inverse n))
