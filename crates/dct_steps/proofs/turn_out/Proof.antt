@@ -65,8 +65,7 @@ loop-again c =
     let g = st .args in
     let l = c .before .before .before .before .before .before .before .before .before .before .before .before .loop-test .taken in
     let a = c .before .before .before .before .before .before .before .before .before .mul .ensures ∙ ap₂ times (c .before .before .before .before .before .before .before .before .before .before .before .get .ensures) (c .before .before .before .before .before .before .before .before .before .before .get2 .ensures) in
-    let b = c .before .before .before .before .before .before .mul2 .ensures ∙ ap₂ times (c .before .before .before .before .before .before .before .before .get3 .ensures) (c .before .before .before .before .before .before .before .get4 .ensures) in
-    (
+    let b = c .before .before .before .before .before .before .mul2 .ensures ∙ ap₂ times (c .before .before .before .before .before .before .before .before .get3 .ensures) (c .before .before .before .before .before .before .before .get4 .ensures) in (
       omega (arith, l),
       two-more _ _ (λ n. times (at (g .dr .now) (g .di .now) n) (at (g .ar .now) (g .ai .now) n)) (st .pre .0) (lp .n) l refl (lp .inv .1) (ap (λ (w : Complex). mul binary32 (w .r) double) a) (ap (λ (w : Complex). mul binary32 (neg (w .i)) double) b) (c .before .before .pair .ensures),
     )

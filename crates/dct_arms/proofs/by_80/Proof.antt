@@ -1,0 +1,47 @@
+-- `dct_arms::by_80` meets its contract: the law of an arm at its size. Written by tools/tables. Assumes nothing.
+use mathlib.Core.Path.{sym, _∙_}
+use native.Mathlib.Nat.{le-refl}
+use borrow.Author.Needs.{needs}
+use Rattle.dct_arms.proofs.Arms.{area, dct, dct-room, fit, fft, fft-room, transforms, is-dct}
+use Rattle.dct_arms.proofs.by_80.Statement.{statement}
+use Rattle.dct_arms.proofs.by_80.Tie as tie
+
+pub by-80-spec : {M : Type 1} → statement M
+by-80-spec =
+    tie.close
+    (tie.spec
+    (λ c κs. tt)
+    (λ c. sym (dct 80 (c .before .before .before .pre .0) _ (c .before .dct-80 .ensures) .fits))
+    (λ c κs. tt)
+    (λ c κs. tt)
+    (λ c κs. tt)
+    (λ c κs. tt)
+    (λ c. sym (dct 80 (c .before .before .before .before .before .before .before .before .before .pre .0) _ (c .before .before .before .before .before .before .before .dct-80 .ensures) .re-fits))
+    (λ c. dct-room 80 (c .before .before .before .before .before .before .before .before .before .pre .0) _ (c .before .before .before .before .before .before .before .dct-80 .ensures))
+    (λ c. dct-room 80 (c .before .before .before .before .before .before .before .before .before .pre .0) _ (c .before .before .before .before .before .before .before .dct-80 .ensures))
+    (λ c. le-refl _)
+    (λ c. sym (area 80 _ (c .before .before .before .before .before .before .before .zeros-80 .ensures)))
+    (λ c. sym (area 80 _ (c .before .before .before .before .before .before .before .zeros-802 .ensures)))
+    (λ c κs. fit 80 (c .before .before .before .before .before .before .before .before .before .before .before .before .pre .0) _ (c .before .before .before .before .before .before .before .before .before .before .dct-80 .ensures) (c .before .before .before .before .before .before .before .before .before .before .before .before .pre .1) (area 80 _ (c .before .before .before .before .before .before .before .before .zeros-80 .ensures)) (area 80 _ (c .before .before .before .before .before .before .before .zeros-802 .ensures)))
+    (λ c κs. tt)
+    (λ c. sym (fft 80 (c .before .before .before .before .before .before .before .before .before .before .before .before .before .before .before .before .before .pre .0) _ (c .before .fft-80 .ensures) .fits))
+    (λ c. sym (area 80 _ (c .before .before .before .before .before .before .before .before .before .before .before .before .zeros-803 .ensures)))
+    (λ c. sym (area 80 _ (c .before .before .before .before .before .before .before .before .before .before .before .before .zeros-804 .ensures)))
+    (λ c. sym ((c .before .before .before .before .before .before .before .turn-in .kept .1 .1 .1 .0) ∙ (area 80 _ (c .before .before .before .before .before .before .before .before .before .before .before .before .before .before .before .before .zeros-80 .ensures))))
+    (λ c. sym ((c .before .before .before .before .before .before .before .before .turn-in .kept .1 .1 .1 .1 .0) ∙ (area 80 _ (c .before .before .before .before .before .before .before .before .before .before .before .before .before .before .before .before .zeros-802 .ensures))))
+    (λ c. sym (fft 80 (c .before .before .before .before .before .before .before .before .before .before .before .before .before .before .before .before .before .before .before .before .before .before .pre .0) _ (c .before .before .before .before .before .before .fft-80 .ensures) .re-fits))
+    (λ c. fft-room 80 (c .before .before .before .before .before .before .before .before .before .before .before .before .before .before .before .before .before .before .before .before .before .before .pre .0) _ (c .before .before .before .before .before .before .fft-80 .ensures))
+    (λ c. fft-room 80 (c .before .before .before .before .before .before .before .before .before .before .before .before .before .before .before .before .before .before .before .before .before .before .pre .0) _ (c .before .before .before .before .before .before .fft-80 .ensures))
+    (λ c. le-refl _)
+    (λ c κs. tt)
+    (λ c. search needs)
+    (λ c κs. transforms 80 (c .before .before .before .before .before .before .before .before .before .before .before .before .before .before .before .before .before .before .before .before .before .before .before .before .before .pre .0) _ (c .before .before .before .before .before .before .before .before .before .fft-80 .ensures) ((c .before .before .before .before .before .before .before .before .before .before .before .before .turn-in .kept .1 .1 .1 .0) ∙ (area 80 _ (c .before .before .before .before .before .before .before .before .before .before .before .before .before .before .before .before .before .before .before .before .before .zeros-80 .ensures))) ((c .before .before .before .before .before .before .before .before .before .before .before .before .turn-in .kept .1 .1 .1 .1 .0) ∙ (area 80 _ (c .before .before .before .before .before .before .before .before .before .before .before .before .before .before .before .before .before .before .before .before .zeros-802 .ensures))) (c .before .plan-80 .ensures) (area 80 _ (c .before .before .before .before .before .before .before .before .before .before .before .before .before .before .before .before .before .before .before .zeros-803 .ensures)) (area 80 _ (c .before .before .before .before .before .before .before .before .before .before .before .before .before .before .before .before .before .before .zeros-804 .ensures)))
+    (λ c. sym ((c .before .before .before .transform .kept .0) ∙ (area 80 _ (c .before .before .before .before .before .before .before .before .before .before .before .before .before .before .before .before .before .before .before .before .before .before .before .zeros-803 .ensures))))
+    (λ c. sym ((c .before .before .before .before .transform .kept .1 .0) ∙ (area 80 _ (c .before .before .before .before .before .before .before .before .before .before .before .before .before .before .before .before .before .before .before .before .before .before .before .zeros-804 .ensures))))
+    (λ c. sym (dct 80 (c .before .before .before .before .before .before .before .before .before .before .before .before .before .before .before .before .before .before .before .before .before .before .before .before .before .before .before .before .before .before .before .pre .0) _ (c .before .before .before .before .before .before .before .before .before .before .before .before .before .before .before .before .before .before .before .before .before .before .before .before .before .before .before .before .before .dct-80 .ensures) .re-fits))
+    (λ c. dct-room 80 (c .before .before .before .before .before .before .before .before .before .before .before .before .before .before .before .before .before .before .before .before .before .before .before .before .before .before .before .before .before .before .before .pre .0) _ (c .before .before .before .before .before .before .before .before .before .before .before .before .before .before .before .before .before .before .before .before .before .before .before .before .before .before .before .before .before .dct-80 .ensures))
+    (λ c. dct-room 80 (c .before .before .before .before .before .before .before .before .before .before .before .before .before .before .before .before .before .before .before .before .before .before .before .before .before .before .before .before .before .before .before .pre .0) _ (c .before .before .before .before .before .before .before .before .before .before .before .before .before .before .before .before .before .before .before .before .before .before .before .before .before .before .before .before .before .dct-80 .ensures))
+    (λ c. le-refl _)
+    (λ c κs. fit 80 (c .before .before .before .before .before .before .before .before .before .before .before .before .before .before .before .before .before .before .before .before .before .before .before .before .before .before .before .before .before .before .before .before .before .pre .0) _ (c .before .before .before .before .before .before .before .before .before .before .before .before .before .before .before .before .before .before .before .before .before .before .before .before .before .before .before .before .before .before .before .dct-80 .ensures) (c .before .before .before .before .before .before .before .before .before .before .before .before .before .before .before .before .before .before .before .before .before .before .before .before .before .before .before .before .before .before .before .before .before .pre .1) ((c .before .before .before .before .before .before .before .transform .kept .0) ∙ (area 80 _ (c .before .before .before .before .before .before .before .before .before .before .before .before .before .before .before .before .before .before .before .before .before .before .before .before .before .before .before .zeros-803 .ensures))) ((c .before .before .before .before .before .before .before .transform .kept .1 .0) ∙ (area 80 _ (c .before .before .before .before .before .before .before .before .before .before .before .before .before .before .before .before .before .before .before .before .before .before .before .before .before .before .zeros-804 .ensures))))
+    (λ c. (c .before .before .turn-out .kept .1 .1 .1 .1 .0))
+    (λ c. is-dct 80 (c .before .before .before .before .before .before .before .before .before .before .before .before .before .before .before .before .before .before .before .before .before .before .before .before .before .before .before .before .before .before .before .before .before .before .before .before .pre .0) _ _ _ (c .before .before .before .before .before .before .before .before .before .before .before .before .before .before .before .before .before .before .before .before .before .before .before .before .before .before .before .before .before .before .before .before .before .before .dct-80 .ensures) (c .before .before .before .before .before .before .before .before .before .before .before .before .before .before .before .before .before .before .before .before .fft-80 .ensures) (c .before .before .before .before .before .before .before .before .before .before .before .before .before .before .before .before .before .before .before .before .before .before .before .before .before .before .before .before .before .before .before .before .before .before .before .before .pre .1) (area 80 _ (c .before .before .before .before .before .before .before .before .before .before .before .before .before .before .before .before .before .before .before .before .before .before .before .before .before .before .before .before .before .before .before .before .zeros-80 .ensures)) (c .before .before .before .before .before .before .before .before .before .before .before .before .before .before .before .before .before .before .before .before .before .before .before .turn-in .ensures) ((c .before .before .before .before .before .before .before .before .before .before .before .before .before .before .before .before .before .before .before .before .before .before .before .turn-in .kept .1 .1 .1 .0) ∙ (area 80 _ (c .before .before .before .before .before .before .before .before .before .before .before .before .before .before .before .before .before .before .before .before .before .before .before .before .before .before .before .before .before .before .before .before .zeros-80 .ensures))) (c .before .before .before .before .before .before .before .before .before .before .transform .ensures) (c .before .before .turn-out .ensures)))

@@ -1,0 +1,408 @@
+// The DCT-IV of each length with its tables and work areas: a function for each length, so that those of one are on the stack at a time, the loops have
+// known counts and no two areas overlap. Written by tools/tables.
+// Ported from src/common/dct_iv.rs of lc3-codec 0.2.0, and changed: the tables are constant, and the work areas the function's own.
+ghost use mathlib.Core.Path.{_≡_};
+ghost use lib.Dec.{T};
+ghost use lib.ListN.{length, replicate};
+ghost use Rattle.laws.specs.Numbers.{zero32};
+ghost use Rattle.config.specs.Config.{among, fftSizes};
+ghost use Rattle.dct_steps.specs.Dct.{dctIv};
+use dct_steps::turn_in;
+use dct_steps::turn_out;
+use fft_tables::fft_10;
+use fft_tables::fft_20;
+use fft_tables::fft_30;
+use fft_tables::fft_40;
+use fft_tables::fft_60;
+use fft_tables::fft_80;
+use fft_tables::fft_90;
+use fft_tables::fft_120;
+use fft_tables::fft_160;
+use fft_tables::fft_180;
+use fft_tables::fft_240;
+use fft_tables::plan_10;
+use fft_tables::plan_20;
+use fft_tables::plan_30;
+use fft_tables::plan_40;
+use fft_tables::plan_60;
+use fft_tables::plan_80;
+use fft_tables::plan_90;
+use fft_tables::plan_120;
+use fft_tables::plan_160;
+use fft_tables::plan_180;
+use fft_tables::plan_240;
+use kf_work::transform;
+use twiddles::dct_10;
+use twiddles::dct_20;
+use twiddles::dct_30;
+use twiddles::dct_40;
+use twiddles::dct_60;
+use twiddles::dct_80;
+use twiddles::dct_90;
+use twiddles::dct_120;
+use twiddles::dct_160;
+use twiddles::dct_180;
+use twiddles::dct_240;
+
+fn zeros_10() -> [f32; 10]
+    ensures { λ r. ⌜ r ≡ replicate 10 zero32 ⌝ }
+{
+    [0.0f32; 10]
+}
+
+// Inner. The DCT-IV of 20 values.
+pub fn by_10(buf: &mut [f32])
+    requires { ⌜ T (among fftSizes 10) × (length (now buf) ≡ 20) ⌝ }
+    ensures { λ _. ⌜ now (buf .exit) ≡ dctIv (now (buf .entry)) ⌝ }
+{
+    let dct = dct_10();
+    let d = &dct[..];
+    let mut xr = zeros_10();
+    let mut xi = zeros_10();
+    let mut ar = zeros_10();
+    let mut ai = zeros_10();
+    turn_in(buf, &d[..10], &d[10..], &mut xr, &mut xi);
+    let fft = fft_10();
+    let t = &fft[..];
+    transform(
+        &mut ar,
+        &mut ai,
+        &xr,
+        &xi,
+        &t[..9],
+        &t[9..],
+        &plan_10(),
+        false,
+    );
+    turn_out(&ar, &ai, &d[..10], &d[10..], buf);
+}
+
+fn zeros_20() -> [f32; 20]
+    ensures { λ r. ⌜ r ≡ replicate 20 zero32 ⌝ }
+{
+    [0.0f32; 20]
+}
+
+// Inner. The DCT-IV of 40 values.
+pub fn by_20(buf: &mut [f32])
+    requires { ⌜ T (among fftSizes 20) × (length (now buf) ≡ 40) ⌝ }
+    ensures { λ _. ⌜ now (buf .exit) ≡ dctIv (now (buf .entry)) ⌝ }
+{
+    let dct = dct_20();
+    let d = &dct[..];
+    let mut xr = zeros_20();
+    let mut xi = zeros_20();
+    let mut ar = zeros_20();
+    let mut ai = zeros_20();
+    turn_in(buf, &d[..20], &d[20..], &mut xr, &mut xi);
+    let fft = fft_20();
+    let t = &fft[..];
+    transform(
+        &mut ar,
+        &mut ai,
+        &xr,
+        &xi,
+        &t[..19],
+        &t[19..],
+        &plan_20(),
+        false,
+    );
+    turn_out(&ar, &ai, &d[..20], &d[20..], buf);
+}
+
+fn zeros_30() -> [f32; 30]
+    ensures { λ r. ⌜ r ≡ replicate 30 zero32 ⌝ }
+{
+    [0.0f32; 30]
+}
+
+// Inner. The DCT-IV of 60 values.
+pub fn by_30(buf: &mut [f32])
+    requires { ⌜ T (among fftSizes 30) × (length (now buf) ≡ 60) ⌝ }
+    ensures { λ _. ⌜ now (buf .exit) ≡ dctIv (now (buf .entry)) ⌝ }
+{
+    let dct = dct_30();
+    let d = &dct[..];
+    let mut xr = zeros_30();
+    let mut xi = zeros_30();
+    let mut ar = zeros_30();
+    let mut ai = zeros_30();
+    turn_in(buf, &d[..30], &d[30..], &mut xr, &mut xi);
+    let fft = fft_30();
+    let t = &fft[..];
+    transform(
+        &mut ar,
+        &mut ai,
+        &xr,
+        &xi,
+        &t[..29],
+        &t[29..],
+        &plan_30(),
+        false,
+    );
+    turn_out(&ar, &ai, &d[..30], &d[30..], buf);
+}
+
+fn zeros_40() -> [f32; 40]
+    ensures { λ r. ⌜ r ≡ replicate 40 zero32 ⌝ }
+{
+    [0.0f32; 40]
+}
+
+// Inner. The DCT-IV of 80 values.
+pub fn by_40(buf: &mut [f32])
+    requires { ⌜ T (among fftSizes 40) × (length (now buf) ≡ 80) ⌝ }
+    ensures { λ _. ⌜ now (buf .exit) ≡ dctIv (now (buf .entry)) ⌝ }
+{
+    let dct = dct_40();
+    let d = &dct[..];
+    let mut xr = zeros_40();
+    let mut xi = zeros_40();
+    let mut ar = zeros_40();
+    let mut ai = zeros_40();
+    turn_in(buf, &d[..40], &d[40..], &mut xr, &mut xi);
+    let fft = fft_40();
+    let t = &fft[..];
+    transform(
+        &mut ar,
+        &mut ai,
+        &xr,
+        &xi,
+        &t[..39],
+        &t[39..],
+        &plan_40(),
+        false,
+    );
+    turn_out(&ar, &ai, &d[..40], &d[40..], buf);
+}
+
+fn zeros_60() -> [f32; 60]
+    ensures { λ r. ⌜ r ≡ replicate 60 zero32 ⌝ }
+{
+    [0.0f32; 60]
+}
+
+// Inner. The DCT-IV of 120 values.
+pub fn by_60(buf: &mut [f32])
+    requires { ⌜ T (among fftSizes 60) × (length (now buf) ≡ 120) ⌝ }
+    ensures { λ _. ⌜ now (buf .exit) ≡ dctIv (now (buf .entry)) ⌝ }
+{
+    let dct = dct_60();
+    let d = &dct[..];
+    let mut xr = zeros_60();
+    let mut xi = zeros_60();
+    let mut ar = zeros_60();
+    let mut ai = zeros_60();
+    turn_in(buf, &d[..60], &d[60..], &mut xr, &mut xi);
+    let fft = fft_60();
+    let t = &fft[..];
+    transform(
+        &mut ar,
+        &mut ai,
+        &xr,
+        &xi,
+        &t[..59],
+        &t[59..],
+        &plan_60(),
+        false,
+    );
+    turn_out(&ar, &ai, &d[..60], &d[60..], buf);
+}
+
+fn zeros_80() -> [f32; 80]
+    ensures { λ r. ⌜ r ≡ replicate 80 zero32 ⌝ }
+{
+    [0.0f32; 80]
+}
+
+// Inner. The DCT-IV of 160 values.
+pub fn by_80(buf: &mut [f32])
+    requires { ⌜ T (among fftSizes 80) × (length (now buf) ≡ 160) ⌝ }
+    ensures { λ _. ⌜ now (buf .exit) ≡ dctIv (now (buf .entry)) ⌝ }
+{
+    let dct = dct_80();
+    let d = &dct[..];
+    let mut xr = zeros_80();
+    let mut xi = zeros_80();
+    let mut ar = zeros_80();
+    let mut ai = zeros_80();
+    turn_in(buf, &d[..80], &d[80..], &mut xr, &mut xi);
+    let fft = fft_80();
+    let t = &fft[..];
+    transform(
+        &mut ar,
+        &mut ai,
+        &xr,
+        &xi,
+        &t[..79],
+        &t[79..],
+        &plan_80(),
+        false,
+    );
+    turn_out(&ar, &ai, &d[..80], &d[80..], buf);
+}
+
+fn zeros_90() -> [f32; 90]
+    ensures { λ r. ⌜ r ≡ replicate 90 zero32 ⌝ }
+{
+    [0.0f32; 90]
+}
+
+// Inner. The DCT-IV of 180 values.
+pub fn by_90(buf: &mut [f32])
+    requires { ⌜ T (among fftSizes 90) × (length (now buf) ≡ 180) ⌝ }
+    ensures { λ _. ⌜ now (buf .exit) ≡ dctIv (now (buf .entry)) ⌝ }
+{
+    let dct = dct_90();
+    let d = &dct[..];
+    let mut xr = zeros_90();
+    let mut xi = zeros_90();
+    let mut ar = zeros_90();
+    let mut ai = zeros_90();
+    turn_in(buf, &d[..90], &d[90..], &mut xr, &mut xi);
+    let fft = fft_90();
+    let t = &fft[..];
+    transform(
+        &mut ar,
+        &mut ai,
+        &xr,
+        &xi,
+        &t[..89],
+        &t[89..],
+        &plan_90(),
+        false,
+    );
+    turn_out(&ar, &ai, &d[..90], &d[90..], buf);
+}
+
+fn zeros_120() -> [f32; 120]
+    ensures { λ r. ⌜ r ≡ replicate 120 zero32 ⌝ }
+{
+    [0.0f32; 120]
+}
+
+// Inner. The DCT-IV of 240 values.
+pub fn by_120(buf: &mut [f32])
+    requires { ⌜ T (among fftSizes 120) × (length (now buf) ≡ 240) ⌝ }
+    ensures { λ _. ⌜ now (buf .exit) ≡ dctIv (now (buf .entry)) ⌝ }
+{
+    let dct = dct_120();
+    let d = &dct[..];
+    let mut xr = zeros_120();
+    let mut xi = zeros_120();
+    let mut ar = zeros_120();
+    let mut ai = zeros_120();
+    turn_in(buf, &d[..120], &d[120..], &mut xr, &mut xi);
+    let fft = fft_120();
+    let t = &fft[..];
+    transform(
+        &mut ar,
+        &mut ai,
+        &xr,
+        &xi,
+        &t[..119],
+        &t[119..],
+        &plan_120(),
+        false,
+    );
+    turn_out(&ar, &ai, &d[..120], &d[120..], buf);
+}
+
+fn zeros_160() -> [f32; 160]
+    ensures { λ r. ⌜ r ≡ replicate 160 zero32 ⌝ }
+{
+    [0.0f32; 160]
+}
+
+// Inner. The DCT-IV of 320 values.
+pub fn by_160(buf: &mut [f32])
+    requires { ⌜ T (among fftSizes 160) × (length (now buf) ≡ 320) ⌝ }
+    ensures { λ _. ⌜ now (buf .exit) ≡ dctIv (now (buf .entry)) ⌝ }
+{
+    let dct = dct_160();
+    let d = &dct[..];
+    let mut xr = zeros_160();
+    let mut xi = zeros_160();
+    let mut ar = zeros_160();
+    let mut ai = zeros_160();
+    turn_in(buf, &d[..160], &d[160..], &mut xr, &mut xi);
+    let fft = fft_160();
+    let t = &fft[..];
+    transform(
+        &mut ar,
+        &mut ai,
+        &xr,
+        &xi,
+        &t[..159],
+        &t[159..],
+        &plan_160(),
+        false,
+    );
+    turn_out(&ar, &ai, &d[..160], &d[160..], buf);
+}
+
+fn zeros_180() -> [f32; 180]
+    ensures { λ r. ⌜ r ≡ replicate 180 zero32 ⌝ }
+{
+    [0.0f32; 180]
+}
+
+// Inner. The DCT-IV of 360 values.
+pub fn by_180(buf: &mut [f32])
+    requires { ⌜ T (among fftSizes 180) × (length (now buf) ≡ 360) ⌝ }
+    ensures { λ _. ⌜ now (buf .exit) ≡ dctIv (now (buf .entry)) ⌝ }
+{
+    let dct = dct_180();
+    let d = &dct[..];
+    let mut xr = zeros_180();
+    let mut xi = zeros_180();
+    let mut ar = zeros_180();
+    let mut ai = zeros_180();
+    turn_in(buf, &d[..180], &d[180..], &mut xr, &mut xi);
+    let fft = fft_180();
+    let t = &fft[..];
+    transform(
+        &mut ar,
+        &mut ai,
+        &xr,
+        &xi,
+        &t[..179],
+        &t[179..],
+        &plan_180(),
+        false,
+    );
+    turn_out(&ar, &ai, &d[..180], &d[180..], buf);
+}
+
+fn zeros_240() -> [f32; 240]
+    ensures { λ r. ⌜ r ≡ replicate 240 zero32 ⌝ }
+{
+    [0.0f32; 240]
+}
+
+// Inner. The DCT-IV of 480 values.
+pub fn by_240(buf: &mut [f32])
+    requires { ⌜ T (among fftSizes 240) × (length (now buf) ≡ 480) ⌝ }
+    ensures { λ _. ⌜ now (buf .exit) ≡ dctIv (now (buf .entry)) ⌝ }
+{
+    let dct = dct_240();
+    let d = &dct[..];
+    let mut xr = zeros_240();
+    let mut xi = zeros_240();
+    let mut ar = zeros_240();
+    let mut ai = zeros_240();
+    turn_in(buf, &d[..240], &d[240..], &mut xr, &mut xi);
+    let fft = fft_240();
+    let t = &fft[..];
+    transform(
+        &mut ar,
+        &mut ai,
+        &xr,
+        &xi,
+        &t[..239],
+        &t[239..],
+        &plan_240(),
+        false,
+    );
+    turn_out(&ar, &ai, &d[..240], &d[240..], buf);
+}
