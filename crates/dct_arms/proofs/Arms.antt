@@ -6,10 +6,9 @@ use Prim.Native.Nat.{ℕ, _+_, _*_, _-_, _/_, _<_, _≤_}
 use native.Mathlib.Omega.{arith}
 use lib.Dec.{T}
 use lib.Ieee.{Float, nan}
-use lib.ListN.{length, getD, take, replicate, length-replicate}
+use lib.ListN.{length, getD, take}
 use borrow.Rule.Slice.PartMut.{midOf}
 use Rattle.laws.specs.Lists.{tab}
-use Rattle.laws.specs.Numbers.{zero32}
 use Rattle.laws.proofs.Lists.{getD-tab}
 use Rattle.complex.specs.declared.Complex.{Complex}
 use Rattle.complex.specs.Complex.{at, times}
@@ -22,10 +21,6 @@ use Rattle.fft_tables.specs.FftTables.{packedRe, packedImOf, packedTable}
 use Rattle.fft_tables.proofs.Packs.{packed-spectrum, packed-halves, packed-forward, some-size}
 use Rattle.dct_steps.specs.Dct.{point, placed, dctBy, dctIv}
 use Rattle.dct_steps.proofs.Placed.{placed-ext}
-
--- a work area
-pub area : (n : ℕ) (x : List Float) → x ≡ replicate n zero32 → length x ≡ n
-area n x e = ap length e ∙ length-replicate n zero32
 
 module _ (n : ℕ) (s : T (among fftSizes n)) where
   module _ (d : List Float) (ed : d ≡ dctTable n) where

@@ -3,8 +3,7 @@
 // Ported from src/common/dct_iv.rs of lc3-codec 0.2.0, and changed: the tables are constant, and the work areas the function's own.
 ghost use mathlib.Core.Path.{_≡_};
 ghost use lib.Dec.{T};
-ghost use lib.ListN.{length, replicate};
-ghost use Rattle.laws.specs.Numbers.{zero32};
+ghost use lib.ListN.{length};
 ghost use Rattle.config.specs.Config.{among, fftSizes};
 ghost use Rattle.dct_steps.specs.Dct.{dctIv};
 use dct_steps::turn_in;
@@ -44,12 +43,6 @@ use twiddles::dct_160;
 use twiddles::dct_180;
 use twiddles::dct_240;
 
-fn zeros_10() -> [f32; 10]
-    ensures { λ r. ⌜ r ≡ replicate 10 zero32 ⌝ }
-{
-    [0.0f32; 10]
-}
-
 // Inner. The DCT-IV of 20 values.
 pub fn by_10(buf: &mut [f32])
     requires { ⌜ T (among fftSizes 10) × (length (now buf) ≡ 20) ⌝ }
@@ -57,10 +50,10 @@ pub fn by_10(buf: &mut [f32])
 {
     let dct = dct_10();
     let d = &dct[..];
-    let mut xr = zeros_10();
-    let mut xi = zeros_10();
-    let mut ar = zeros_10();
-    let mut ai = zeros_10();
+    let mut xr = [0.0f32; 10];
+    let mut xi = [0.0f32; 10];
+    let mut ar = [0.0f32; 10];
+    let mut ai = [0.0f32; 10];
     turn_in(buf, &d[..10], &d[10..], &mut xr, &mut xi);
     let fft = fft_10();
     let t = &fft[..];
@@ -77,12 +70,6 @@ pub fn by_10(buf: &mut [f32])
     turn_out(&ar, &ai, &d[..10], &d[10..], buf);
 }
 
-fn zeros_20() -> [f32; 20]
-    ensures { λ r. ⌜ r ≡ replicate 20 zero32 ⌝ }
-{
-    [0.0f32; 20]
-}
-
 // Inner. The DCT-IV of 40 values.
 pub fn by_20(buf: &mut [f32])
     requires { ⌜ T (among fftSizes 20) × (length (now buf) ≡ 40) ⌝ }
@@ -90,10 +77,10 @@ pub fn by_20(buf: &mut [f32])
 {
     let dct = dct_20();
     let d = &dct[..];
-    let mut xr = zeros_20();
-    let mut xi = zeros_20();
-    let mut ar = zeros_20();
-    let mut ai = zeros_20();
+    let mut xr = [0.0f32; 20];
+    let mut xi = [0.0f32; 20];
+    let mut ar = [0.0f32; 20];
+    let mut ai = [0.0f32; 20];
     turn_in(buf, &d[..20], &d[20..], &mut xr, &mut xi);
     let fft = fft_20();
     let t = &fft[..];
@@ -110,12 +97,6 @@ pub fn by_20(buf: &mut [f32])
     turn_out(&ar, &ai, &d[..20], &d[20..], buf);
 }
 
-fn zeros_30() -> [f32; 30]
-    ensures { λ r. ⌜ r ≡ replicate 30 zero32 ⌝ }
-{
-    [0.0f32; 30]
-}
-
 // Inner. The DCT-IV of 60 values.
 pub fn by_30(buf: &mut [f32])
     requires { ⌜ T (among fftSizes 30) × (length (now buf) ≡ 60) ⌝ }
@@ -123,10 +104,10 @@ pub fn by_30(buf: &mut [f32])
 {
     let dct = dct_30();
     let d = &dct[..];
-    let mut xr = zeros_30();
-    let mut xi = zeros_30();
-    let mut ar = zeros_30();
-    let mut ai = zeros_30();
+    let mut xr = [0.0f32; 30];
+    let mut xi = [0.0f32; 30];
+    let mut ar = [0.0f32; 30];
+    let mut ai = [0.0f32; 30];
     turn_in(buf, &d[..30], &d[30..], &mut xr, &mut xi);
     let fft = fft_30();
     let t = &fft[..];
@@ -143,12 +124,6 @@ pub fn by_30(buf: &mut [f32])
     turn_out(&ar, &ai, &d[..30], &d[30..], buf);
 }
 
-fn zeros_40() -> [f32; 40]
-    ensures { λ r. ⌜ r ≡ replicate 40 zero32 ⌝ }
-{
-    [0.0f32; 40]
-}
-
 // Inner. The DCT-IV of 80 values.
 pub fn by_40(buf: &mut [f32])
     requires { ⌜ T (among fftSizes 40) × (length (now buf) ≡ 80) ⌝ }
@@ -156,10 +131,10 @@ pub fn by_40(buf: &mut [f32])
 {
     let dct = dct_40();
     let d = &dct[..];
-    let mut xr = zeros_40();
-    let mut xi = zeros_40();
-    let mut ar = zeros_40();
-    let mut ai = zeros_40();
+    let mut xr = [0.0f32; 40];
+    let mut xi = [0.0f32; 40];
+    let mut ar = [0.0f32; 40];
+    let mut ai = [0.0f32; 40];
     turn_in(buf, &d[..40], &d[40..], &mut xr, &mut xi);
     let fft = fft_40();
     let t = &fft[..];
@@ -176,12 +151,6 @@ pub fn by_40(buf: &mut [f32])
     turn_out(&ar, &ai, &d[..40], &d[40..], buf);
 }
 
-fn zeros_60() -> [f32; 60]
-    ensures { λ r. ⌜ r ≡ replicate 60 zero32 ⌝ }
-{
-    [0.0f32; 60]
-}
-
 // Inner. The DCT-IV of 120 values.
 pub fn by_60(buf: &mut [f32])
     requires { ⌜ T (among fftSizes 60) × (length (now buf) ≡ 120) ⌝ }
@@ -189,10 +158,10 @@ pub fn by_60(buf: &mut [f32])
 {
     let dct = dct_60();
     let d = &dct[..];
-    let mut xr = zeros_60();
-    let mut xi = zeros_60();
-    let mut ar = zeros_60();
-    let mut ai = zeros_60();
+    let mut xr = [0.0f32; 60];
+    let mut xi = [0.0f32; 60];
+    let mut ar = [0.0f32; 60];
+    let mut ai = [0.0f32; 60];
     turn_in(buf, &d[..60], &d[60..], &mut xr, &mut xi);
     let fft = fft_60();
     let t = &fft[..];
@@ -209,12 +178,6 @@ pub fn by_60(buf: &mut [f32])
     turn_out(&ar, &ai, &d[..60], &d[60..], buf);
 }
 
-fn zeros_80() -> [f32; 80]
-    ensures { λ r. ⌜ r ≡ replicate 80 zero32 ⌝ }
-{
-    [0.0f32; 80]
-}
-
 // Inner. The DCT-IV of 160 values.
 pub fn by_80(buf: &mut [f32])
     requires { ⌜ T (among fftSizes 80) × (length (now buf) ≡ 160) ⌝ }
@@ -222,10 +185,10 @@ pub fn by_80(buf: &mut [f32])
 {
     let dct = dct_80();
     let d = &dct[..];
-    let mut xr = zeros_80();
-    let mut xi = zeros_80();
-    let mut ar = zeros_80();
-    let mut ai = zeros_80();
+    let mut xr = [0.0f32; 80];
+    let mut xi = [0.0f32; 80];
+    let mut ar = [0.0f32; 80];
+    let mut ai = [0.0f32; 80];
     turn_in(buf, &d[..80], &d[80..], &mut xr, &mut xi);
     let fft = fft_80();
     let t = &fft[..];
@@ -242,12 +205,6 @@ pub fn by_80(buf: &mut [f32])
     turn_out(&ar, &ai, &d[..80], &d[80..], buf);
 }
 
-fn zeros_90() -> [f32; 90]
-    ensures { λ r. ⌜ r ≡ replicate 90 zero32 ⌝ }
-{
-    [0.0f32; 90]
-}
-
 // Inner. The DCT-IV of 180 values.
 pub fn by_90(buf: &mut [f32])
     requires { ⌜ T (among fftSizes 90) × (length (now buf) ≡ 180) ⌝ }
@@ -255,10 +212,10 @@ pub fn by_90(buf: &mut [f32])
 {
     let dct = dct_90();
     let d = &dct[..];
-    let mut xr = zeros_90();
-    let mut xi = zeros_90();
-    let mut ar = zeros_90();
-    let mut ai = zeros_90();
+    let mut xr = [0.0f32; 90];
+    let mut xi = [0.0f32; 90];
+    let mut ar = [0.0f32; 90];
+    let mut ai = [0.0f32; 90];
     turn_in(buf, &d[..90], &d[90..], &mut xr, &mut xi);
     let fft = fft_90();
     let t = &fft[..];
@@ -275,12 +232,6 @@ pub fn by_90(buf: &mut [f32])
     turn_out(&ar, &ai, &d[..90], &d[90..], buf);
 }
 
-fn zeros_120() -> [f32; 120]
-    ensures { λ r. ⌜ r ≡ replicate 120 zero32 ⌝ }
-{
-    [0.0f32; 120]
-}
-
 // Inner. The DCT-IV of 240 values.
 pub fn by_120(buf: &mut [f32])
     requires { ⌜ T (among fftSizes 120) × (length (now buf) ≡ 240) ⌝ }
@@ -288,10 +239,10 @@ pub fn by_120(buf: &mut [f32])
 {
     let dct = dct_120();
     let d = &dct[..];
-    let mut xr = zeros_120();
-    let mut xi = zeros_120();
-    let mut ar = zeros_120();
-    let mut ai = zeros_120();
+    let mut xr = [0.0f32; 120];
+    let mut xi = [0.0f32; 120];
+    let mut ar = [0.0f32; 120];
+    let mut ai = [0.0f32; 120];
     turn_in(buf, &d[..120], &d[120..], &mut xr, &mut xi);
     let fft = fft_120();
     let t = &fft[..];
@@ -308,12 +259,6 @@ pub fn by_120(buf: &mut [f32])
     turn_out(&ar, &ai, &d[..120], &d[120..], buf);
 }
 
-fn zeros_160() -> [f32; 160]
-    ensures { λ r. ⌜ r ≡ replicate 160 zero32 ⌝ }
-{
-    [0.0f32; 160]
-}
-
 // Inner. The DCT-IV of 320 values.
 pub fn by_160(buf: &mut [f32])
     requires { ⌜ T (among fftSizes 160) × (length (now buf) ≡ 320) ⌝ }
@@ -321,10 +266,10 @@ pub fn by_160(buf: &mut [f32])
 {
     let dct = dct_160();
     let d = &dct[..];
-    let mut xr = zeros_160();
-    let mut xi = zeros_160();
-    let mut ar = zeros_160();
-    let mut ai = zeros_160();
+    let mut xr = [0.0f32; 160];
+    let mut xi = [0.0f32; 160];
+    let mut ar = [0.0f32; 160];
+    let mut ai = [0.0f32; 160];
     turn_in(buf, &d[..160], &d[160..], &mut xr, &mut xi);
     let fft = fft_160();
     let t = &fft[..];
@@ -341,12 +286,6 @@ pub fn by_160(buf: &mut [f32])
     turn_out(&ar, &ai, &d[..160], &d[160..], buf);
 }
 
-fn zeros_180() -> [f32; 180]
-    ensures { λ r. ⌜ r ≡ replicate 180 zero32 ⌝ }
-{
-    [0.0f32; 180]
-}
-
 // Inner. The DCT-IV of 360 values.
 pub fn by_180(buf: &mut [f32])
     requires { ⌜ T (among fftSizes 180) × (length (now buf) ≡ 360) ⌝ }
@@ -354,10 +293,10 @@ pub fn by_180(buf: &mut [f32])
 {
     let dct = dct_180();
     let d = &dct[..];
-    let mut xr = zeros_180();
-    let mut xi = zeros_180();
-    let mut ar = zeros_180();
-    let mut ai = zeros_180();
+    let mut xr = [0.0f32; 180];
+    let mut xi = [0.0f32; 180];
+    let mut ar = [0.0f32; 180];
+    let mut ai = [0.0f32; 180];
     turn_in(buf, &d[..180], &d[180..], &mut xr, &mut xi);
     let fft = fft_180();
     let t = &fft[..];
@@ -374,12 +313,6 @@ pub fn by_180(buf: &mut [f32])
     turn_out(&ar, &ai, &d[..180], &d[180..], buf);
 }
 
-fn zeros_240() -> [f32; 240]
-    ensures { λ r. ⌜ r ≡ replicate 240 zero32 ⌝ }
-{
-    [0.0f32; 240]
-}
-
 // Inner. The DCT-IV of 480 values.
 pub fn by_240(buf: &mut [f32])
     requires { ⌜ T (among fftSizes 240) × (length (now buf) ≡ 480) ⌝ }
@@ -387,10 +320,10 @@ pub fn by_240(buf: &mut [f32])
 {
     let dct = dct_240();
     let d = &dct[..];
-    let mut xr = zeros_240();
-    let mut xi = zeros_240();
-    let mut ar = zeros_240();
-    let mut ai = zeros_240();
+    let mut xr = [0.0f32; 240];
+    let mut xi = [0.0f32; 240];
+    let mut ar = [0.0f32; 240];
+    let mut ai = [0.0f32; 240];
     turn_in(buf, &d[..240], &d[240..], &mut xr, &mut xi);
     let fft = fft_240();
     let t = &fft[..];
