@@ -1,5 +1,5 @@
-// The DCT-IV of each length with its tables and work areas: a function for each length, so that those of one are on the stack at a time, the loops have
-// known counts and no two areas overlap. Written by tools/tables.
+// The DCT-IV of each length of more than 80 values with its tables and work areas: a function for each length, so that those of one are on the stack at a time, and
+// the compiler knows how often each loop turns and that no two areas overlap. Written by tools/tables.
 // Ported from src/common/dct_iv.rs of lc3-codec 0.2.0, and changed: the tables are constant, and the work areas the function's own.
 ghost use mathlib.Core.Path.{_≡_};
 ghost use lib.Dec.{T};
@@ -8,10 +8,6 @@ ghost use Rattle.config.specs.Config.{among, fftSizes};
 ghost use Rattle.dct_steps.specs.Dct.{dctIv};
 use dct_steps::turn_in;
 use dct_steps::turn_out;
-use fft_tables::fft_10;
-use fft_tables::fft_20;
-use fft_tables::fft_30;
-use fft_tables::fft_40;
 use fft_tables::fft_60;
 use fft_tables::fft_80;
 use fft_tables::fft_90;
@@ -19,10 +15,6 @@ use fft_tables::fft_120;
 use fft_tables::fft_160;
 use fft_tables::fft_180;
 use fft_tables::fft_240;
-use fft_tables::plan_10;
-use fft_tables::plan_20;
-use fft_tables::plan_30;
-use fft_tables::plan_40;
 use fft_tables::plan_60;
 use fft_tables::plan_80;
 use fft_tables::plan_90;
@@ -31,10 +23,6 @@ use fft_tables::plan_160;
 use fft_tables::plan_180;
 use fft_tables::plan_240;
 use kf_work::transform;
-use twiddles::dct_10;
-use twiddles::dct_20;
-use twiddles::dct_30;
-use twiddles::dct_40;
 use twiddles::dct_60;
 use twiddles::dct_80;
 use twiddles::dct_90;
@@ -43,114 +31,6 @@ use twiddles::dct_160;
 use twiddles::dct_180;
 use twiddles::dct_240;
 
-// Inner. The DCT-IV of 20 values.
-pub fn by_10(buf: &mut [f32])
-    requires { ⌜ T (among fftSizes 10) × (length (now buf) ≡ 20) ⌝ }
-    ensures { λ _. ⌜ now (buf .exit) ≡ dctIv (now (buf .entry)) ⌝ }
-{
-    let dct = dct_10();
-    let d = &dct[..];
-    let mut xr = [0.0f32; 10];
-    let mut xi = [0.0f32; 10];
-    let mut ar = [0.0f32; 10];
-    let mut ai = [0.0f32; 10];
-    turn_in(buf, &d[..10], &d[10..], &mut xr, &mut xi);
-    let fft = fft_10();
-    let t = &fft[..];
-    transform(
-        &mut ar,
-        &mut ai,
-        &xr,
-        &xi,
-        &t[..9],
-        &t[9..],
-        &plan_10(),
-        false,
-    );
-    turn_out(&ar, &ai, &d[..10], &d[10..], buf);
-}
-
-// Inner. The DCT-IV of 40 values.
-pub fn by_20(buf: &mut [f32])
-    requires { ⌜ T (among fftSizes 20) × (length (now buf) ≡ 40) ⌝ }
-    ensures { λ _. ⌜ now (buf .exit) ≡ dctIv (now (buf .entry)) ⌝ }
-{
-    let dct = dct_20();
-    let d = &dct[..];
-    let mut xr = [0.0f32; 20];
-    let mut xi = [0.0f32; 20];
-    let mut ar = [0.0f32; 20];
-    let mut ai = [0.0f32; 20];
-    turn_in(buf, &d[..20], &d[20..], &mut xr, &mut xi);
-    let fft = fft_20();
-    let t = &fft[..];
-    transform(
-        &mut ar,
-        &mut ai,
-        &xr,
-        &xi,
-        &t[..19],
-        &t[19..],
-        &plan_20(),
-        false,
-    );
-    turn_out(&ar, &ai, &d[..20], &d[20..], buf);
-}
-
-// Inner. The DCT-IV of 60 values.
-pub fn by_30(buf: &mut [f32])
-    requires { ⌜ T (among fftSizes 30) × (length (now buf) ≡ 60) ⌝ }
-    ensures { λ _. ⌜ now (buf .exit) ≡ dctIv (now (buf .entry)) ⌝ }
-{
-    let dct = dct_30();
-    let d = &dct[..];
-    let mut xr = [0.0f32; 30];
-    let mut xi = [0.0f32; 30];
-    let mut ar = [0.0f32; 30];
-    let mut ai = [0.0f32; 30];
-    turn_in(buf, &d[..30], &d[30..], &mut xr, &mut xi);
-    let fft = fft_30();
-    let t = &fft[..];
-    transform(
-        &mut ar,
-        &mut ai,
-        &xr,
-        &xi,
-        &t[..29],
-        &t[29..],
-        &plan_30(),
-        false,
-    );
-    turn_out(&ar, &ai, &d[..30], &d[30..], buf);
-}
-
-// Inner. The DCT-IV of 80 values.
-pub fn by_40(buf: &mut [f32])
-    requires { ⌜ T (among fftSizes 40) × (length (now buf) ≡ 80) ⌝ }
-    ensures { λ _. ⌜ now (buf .exit) ≡ dctIv (now (buf .entry)) ⌝ }
-{
-    let dct = dct_40();
-    let d = &dct[..];
-    let mut xr = [0.0f32; 40];
-    let mut xi = [0.0f32; 40];
-    let mut ar = [0.0f32; 40];
-    let mut ai = [0.0f32; 40];
-    turn_in(buf, &d[..40], &d[40..], &mut xr, &mut xi);
-    let fft = fft_40();
-    let t = &fft[..];
-    transform(
-        &mut ar,
-        &mut ai,
-        &xr,
-        &xi,
-        &t[..39],
-        &t[39..],
-        &plan_40(),
-        false,
-    );
-    turn_out(&ar, &ai, &d[..40], &d[40..], buf);
-}
-
 // Inner. The DCT-IV of 120 values.
 pub fn by_60(buf: &mut [f32])
     requires { ⌜ T (among fftSizes 60) × (length (now buf) ≡ 120) ⌝ }
@@ -158,11 +38,13 @@ pub fn by_60(buf: &mut [f32])
 {
     let dct = dct_60();
     let d = &dct[..];
+    let dr = &d[..60];
+    let di = &d[60..];
     let mut xr = [0.0f32; 60];
     let mut xi = [0.0f32; 60];
     let mut ar = [0.0f32; 60];
     let mut ai = [0.0f32; 60];
-    turn_in(buf, &d[..60], &d[60..], &mut xr, &mut xi);
+    turn_in(buf, dr, di, &mut xr, &mut xi);
     let fft = fft_60();
     let t = &fft[..];
     transform(
@@ -175,7 +57,7 @@ pub fn by_60(buf: &mut [f32])
         &plan_60(),
         false,
     );
-    turn_out(&ar, &ai, &d[..60], &d[60..], buf);
+    turn_out(&ar, &ai, dr, di, buf);
 }
 
 // Inner. The DCT-IV of 160 values.
@@ -185,11 +67,13 @@ pub fn by_80(buf: &mut [f32])
 {
     let dct = dct_80();
     let d = &dct[..];
+    let dr = &d[..80];
+    let di = &d[80..];
     let mut xr = [0.0f32; 80];
     let mut xi = [0.0f32; 80];
     let mut ar = [0.0f32; 80];
     let mut ai = [0.0f32; 80];
-    turn_in(buf, &d[..80], &d[80..], &mut xr, &mut xi);
+    turn_in(buf, dr, di, &mut xr, &mut xi);
     let fft = fft_80();
     let t = &fft[..];
     transform(
@@ -202,7 +86,7 @@ pub fn by_80(buf: &mut [f32])
         &plan_80(),
         false,
     );
-    turn_out(&ar, &ai, &d[..80], &d[80..], buf);
+    turn_out(&ar, &ai, dr, di, buf);
 }
 
 // Inner. The DCT-IV of 180 values.
@@ -212,11 +96,13 @@ pub fn by_90(buf: &mut [f32])
 {
     let dct = dct_90();
     let d = &dct[..];
+    let dr = &d[..90];
+    let di = &d[90..];
     let mut xr = [0.0f32; 90];
     let mut xi = [0.0f32; 90];
     let mut ar = [0.0f32; 90];
     let mut ai = [0.0f32; 90];
-    turn_in(buf, &d[..90], &d[90..], &mut xr, &mut xi);
+    turn_in(buf, dr, di, &mut xr, &mut xi);
     let fft = fft_90();
     let t = &fft[..];
     transform(
@@ -229,7 +115,7 @@ pub fn by_90(buf: &mut [f32])
         &plan_90(),
         false,
     );
-    turn_out(&ar, &ai, &d[..90], &d[90..], buf);
+    turn_out(&ar, &ai, dr, di, buf);
 }
 
 // Inner. The DCT-IV of 240 values.
@@ -239,11 +125,13 @@ pub fn by_120(buf: &mut [f32])
 {
     let dct = dct_120();
     let d = &dct[..];
+    let dr = &d[..120];
+    let di = &d[120..];
     let mut xr = [0.0f32; 120];
     let mut xi = [0.0f32; 120];
     let mut ar = [0.0f32; 120];
     let mut ai = [0.0f32; 120];
-    turn_in(buf, &d[..120], &d[120..], &mut xr, &mut xi);
+    turn_in(buf, dr, di, &mut xr, &mut xi);
     let fft = fft_120();
     let t = &fft[..];
     transform(
@@ -256,7 +144,7 @@ pub fn by_120(buf: &mut [f32])
         &plan_120(),
         false,
     );
-    turn_out(&ar, &ai, &d[..120], &d[120..], buf);
+    turn_out(&ar, &ai, dr, di, buf);
 }
 
 // Inner. The DCT-IV of 320 values.
@@ -266,11 +154,13 @@ pub fn by_160(buf: &mut [f32])
 {
     let dct = dct_160();
     let d = &dct[..];
+    let dr = &d[..160];
+    let di = &d[160..];
     let mut xr = [0.0f32; 160];
     let mut xi = [0.0f32; 160];
     let mut ar = [0.0f32; 160];
     let mut ai = [0.0f32; 160];
-    turn_in(buf, &d[..160], &d[160..], &mut xr, &mut xi);
+    turn_in(buf, dr, di, &mut xr, &mut xi);
     let fft = fft_160();
     let t = &fft[..];
     transform(
@@ -283,7 +173,7 @@ pub fn by_160(buf: &mut [f32])
         &plan_160(),
         false,
     );
-    turn_out(&ar, &ai, &d[..160], &d[160..], buf);
+    turn_out(&ar, &ai, dr, di, buf);
 }
 
 // Inner. The DCT-IV of 360 values.
@@ -293,11 +183,13 @@ pub fn by_180(buf: &mut [f32])
 {
     let dct = dct_180();
     let d = &dct[..];
+    let dr = &d[..180];
+    let di = &d[180..];
     let mut xr = [0.0f32; 180];
     let mut xi = [0.0f32; 180];
     let mut ar = [0.0f32; 180];
     let mut ai = [0.0f32; 180];
-    turn_in(buf, &d[..180], &d[180..], &mut xr, &mut xi);
+    turn_in(buf, dr, di, &mut xr, &mut xi);
     let fft = fft_180();
     let t = &fft[..];
     transform(
@@ -310,7 +202,7 @@ pub fn by_180(buf: &mut [f32])
         &plan_180(),
         false,
     );
-    turn_out(&ar, &ai, &d[..180], &d[180..], buf);
+    turn_out(&ar, &ai, dr, di, buf);
 }
 
 // Inner. The DCT-IV of 480 values.
@@ -320,11 +212,13 @@ pub fn by_240(buf: &mut [f32])
 {
     let dct = dct_240();
     let d = &dct[..];
+    let dr = &d[..240];
+    let di = &d[240..];
     let mut xr = [0.0f32; 240];
     let mut xi = [0.0f32; 240];
     let mut ar = [0.0f32; 240];
     let mut ai = [0.0f32; 240];
-    turn_in(buf, &d[..240], &d[240..], &mut xr, &mut xi);
+    turn_in(buf, dr, di, &mut xr, &mut xi);
     let fft = fft_240();
     let t = &fft[..];
     transform(
@@ -337,5 +231,5 @@ pub fn by_240(buf: &mut [f32])
         &plan_240(),
         false,
     );
-    turn_out(&ar, &ai, &d[..240], &d[240..], buf);
+    turn_out(&ar, &ai, dr, di, buf);
 }
