@@ -1,4 +1,4 @@
--- An arm of n points: what its calls ask, and that what they leave is the DCT. One law for all sizes. Assumes nothing.
+-- The DCT of 2 n values by its steps: what they ask, and that what they leave is the DCT, for all sizes at once. Assumes nothing.
 use mathlib.Core.Path.{_≡_, sym, ap, ap₂, subst, _∙_}
 use mathlib.Core.Bool.{false}
 use mathlib.Core.List.{List}
@@ -30,7 +30,7 @@ module _ (n : ℕ) (s : T (among fftSizes n)) where
     pub dct-room : n ≤ length d
     dct-room = omega (arith, dct .fits)
 
-    -- of the steps before and after the FFT
+    -- what the steps before and after the FFT ask
     pub fit : {lb lx ly : ℕ} → lb ≡ 2 * n → lx ≡ n → ly ≡ n
         → (lb ≡ 2 * lx) × (length (take n d) ≡ lx) × (length (midOf n (length d - n) d) ≡ lx) × (ly ≡ lx)
     fit eb ex ey = (eb ∙ ap (λ (k : ℕ). 2 * k) (sym ex), dct .re-fits ∙ sym ex, dct .im-fits ∙ sym ex, ey ∙ sym ex)
@@ -42,7 +42,7 @@ module _ (n : ℕ) (s : T (among fftSizes n)) where
     pub fft-room : n - 1 ≤ length t
     fft-room = omega (arith, fft .fits)
 
-    -- of the FFT
+    -- what the FFT asks
     pub transforms : {lx ly la lb : ℕ} {p : List ℕ} → lx ≡ n → ly ≡ n → p ≡ plan n → la ≡ n → lb ≡ n
         → T (among fftSizes lx) × (ly ≡ lx) × (lx ≡ 1 + length (take (n - 1) t)) × (lx ≡ 1 + length (midOf (n - 1) (length t - (n - 1)) t))
         × (p ≡ plan lx) × (la ≡ lx) × (lb ≡ lx)

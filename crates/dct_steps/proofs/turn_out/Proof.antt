@@ -1,6 +1,6 @@
 -- `dct_steps::turn_out` meets its contract. The loop's invariant: the first 2 n places are written. Assumes nothing.
 use mathlib.Core.Path.{refl, ap, ap₂, _∙_}
-use Prim.Native.Nat.{_+_, _-_, _*_, _≤_}
+use Prim.Native.Nat.{_-_, _*_, _≤_}
 use native.Mathlib.Omega.{arith}
 use lib.Ieee.{binary32, mul, neg}
 use lib.ListN.{length}
