@@ -11,7 +11,7 @@ use Rattle.config.specs.Config.{valid, nf, z, among, dctLengths}
 use Rattle.config.proofs.Sound.{sound}
 use Rattle.windows.specs.Windows.{window}
 use Rattle.twiddles.specs.Twiddles.{gain}
-use Rattle.dct_iv.specs.DctIv.{dctIv}
+use Rattle.dct_steps.specs.Dct.{dctIv}
 use Rattle.analysis_steps.specs.Buffer.{bufferStep, bufferOf}
 use Rattle.analysis_steps.specs.Fold.{folded, gained}
 use Rattle.analysis_lines.specs.Lines.{timeBuffer, mdct, linesOf}

@@ -6,7 +6,7 @@ use lib.Ieee.{Float}
 use Rattle.config.specs.Config.{nf, z}
 use Rattle.windows.specs.Windows.{window}
 use Rattle.twiddles.specs.Twiddles.{gain}
-use Rattle.dct_iv.specs.DctIv.{dctIv}
+use Rattle.dct_steps.specs.Dct.{dctIv}
 use Rattle.analysis_steps.specs.Buffer.{bufferStep, bufferOf}
 use Rattle.analysis_steps.specs.Fold.{folded, gained}
 

@@ -1,6 +1,6 @@
--- The lengths of the DCT by computed tests over the configurations, its tables, and its refusals: each return of `judge` is the definition's
--- verdict. Assumes nothing.
-use mathlib.Core.Path.{_≡_, sym, ap, ap₂, subst, _∙_}
+-- The lengths of the DCT by computed tests over the configurations, and its refusals: each return of `judge` is the definition's verdict.
+-- Assumes nothing.
+use mathlib.Core.Path.{_≡_, sym, ap, subst, _∙_}
 use mathlib.Core.Bool.{Bool, true, false, _&&_, _||_}
 use mathlib.Core.List.{List, [], _∷_}
 use Prim.Native.Nat.{ℕ, _*_, _/_, _<_, _≤_}
@@ -14,29 +14,13 @@ use Rattle.laws.specs.Lists.{first}
 use Rattle.laws.specs.Passes.{passes6}
 use Rattle.laws.proofs.Table.{every}
 use Rattle.laws.proofs.Arms.{Outside}
-use Rattle.complex.specs.declared.Complex.{Complex}
-use Rattle.complex.specs.Complex.{at}
 use Rattle.config.specs.Tables.{rows}
 use Rattle.config.specs.Config.{row, half, among, fftSizes, dctLengths}
-use Rattle.config.proofs.Among.{at-among, same-among, past-among}
+use Rattle.config.proofs.Among.{at-among, past-among}
 use Rattle.config.proofs.Verdicts.{passed}
-use Rattle.twiddles.specs.Tables.{sizes}
-use Rattle.twiddles.specs.Twiddles.{fftRe, fftImOf, twiddle, dctRe, dctIm, dctTwiddle, lengths}
-use Rattle.kf_work.specs.Work.{spectrum, reals, imaginaries}
 use Rattle.config.specs.declared.Verdict.{Verdict}
-use Rattle.dct_iv.specs.DctIv.{point, dctBy, dctIv, number, verdict, left, answer}
-
-ours : T (every (λ k n. among lengths n) 0 dctLengths)
-unfolding sizes dctLengths row rows
-ours = tt
-
-theirs : T (every (λ k n. among dctLengths n) 0 lengths)
-unfolding sizes dctLengths row rows
-theirs = tt
-
--- a length of the configurations is a length of the tables, and the other way round
-pub same-lengths : (n : ℕ) → among dctLengths n ≡ among lengths n
-same-lengths n = same-among dctLengths lengths ours theirs n
+use Rattle.dct_steps.specs.Dct.{dctIv}
+use Rattle.dct_iv.specs.DctIv.{number, verdict, left, answer}
 
 abbrev fits : ℕ → Bool
 fits n = among fftSizes (n / 2) && eqb n (2 * (n / 2))
@@ -74,30 +58,6 @@ pub is-longest : (n : ℕ) → T (among dctLengths n) → 80 < n → Outside lar
 is-longest n s l o =
     let t : T (leb n 80 || eqb 480 n) = past-among (λ n. leb n 80 || eqb 480 n) dctLengths large past-large n s o in
     sym (eqb→eq 480 n (rw (lt-leb n 80 l) at t))
-
--- with the tables of its length
-module _ (buf : List Float) {dr di tr ti : List Float} {n c : ℕ} (e1 : dr ≡ dctRe c) (e2 : di ≡ dctIm c) (e3 : tr ≡ fftRe c) (e4 : ti ≡ fftImOf false c) (e5 : n ≡ c) where
-  d-is : at dr di ≡ dctTwiddle c
-  unfolding dctTwiddle
-  d-is = ap₂ at e1 e2
-
-  t-is : at tr ti ≡ twiddle c false
-  unfolding twiddle
-  t-is = ap₂ at e3 e4
-
-  pub is-dct : length buf ≡ 2 * c → {out : List Float} → out ≡ dctBy (at dr di) (at tr ti) n buf → out ≡ dctIv buf
-  unfolding dctIv
-  is-dct l e = let h : c ≡ length buf / 2 = omega arith in e ∙ (λ j. dctBy (d-is j) (t-is j) (e5 j) buf) ∙ ap (λ (m : ℕ). dctBy (dctTwiddle m) (twiddle m false) m buf) h
-
-  -- a part of the points, then of their transform, by the definition's twiddles
-  pub is-points : {x : List Float} (part : ℕ → (ℕ → Complex) → List Float) → x ≡ part n (point (at dr di) buf) → x ≡ part c (point (dctTwiddle c) buf)
-  is-points part e = e ∙ (λ j. part (e5 j) (point (d-is j) buf))
-
-  pub is-transformed : {x y a : List Float} (part : ℕ → (ℕ → Complex) → List Float) → x ≡ reals n (point (at dr di) buf) → y ≡ imaginaries n (point (at dr di) buf)
-      → a ≡ part n (spectrum (at tr ti) false n (at (reals n (point (at dr di) buf)) (imaginaries n (point (at dr di) buf)))) → a ≡ part c (spectrum (twiddle c false) false c (at x y))
-  is-transformed part ex ey e =
-      let ex′ = sym ex in
-      let ey′ = sym ey in e ∙ (λ j. part (e5 j) (spectrum (t-is j) false (e5 j) (at (ex′ j) (ey′ j))))
 
 module _ (n : ℕ) (buf : List Float) where
   abbrev says : ℕ → ℕ → Type 0

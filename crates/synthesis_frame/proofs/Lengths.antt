@@ -4,8 +4,8 @@ use mathlib.Core.List.{List}
 use Prim.Native.Nat.{ℕ, _*_, _≤_}
 use lib.ListN.{length}
 use lib.Ieee.{Float}
-use Rattle.dct_iv.specs.DctIv.{dctIv}
-use Rattle.dct_iv.proofs.Placed.{length-dctIv}
+use Rattle.dct_steps.specs.Dct.{dctIv}
+use Rattle.dct_steps.proofs.Placed.{length-dctIv}
 use Rattle.synthesis_steps.specs.Places.{padded, unfolded, scaled}
 use Rattle.synthesis_steps.proofs.Places.{length-padded, length-scaled, length-windowed}
 use Rattle.synthesis_steps.proofs.Mirrors.{length-unfolded}

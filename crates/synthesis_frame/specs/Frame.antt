@@ -2,7 +2,7 @@
 use Prim.Native.Nat.{ℕ, _*_}
 use mathlib.Core.List.{List}
 use lib.Ieee.{Float}
-use Rattle.dct_iv.specs.DctIv.{dctIv}
+use Rattle.dct_steps.specs.Dct.{dctIv}
 use Rattle.synthesis_steps.specs.Places.{padded, unfolded, scaled, windowed}
 
 -- run: the 2 nf places of a frame of lines, whose DCT is unfolded, scaled and windowed

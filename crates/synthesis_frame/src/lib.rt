@@ -6,7 +6,7 @@ ghost use lib.Dec.{T};
 ghost use lib.ListN.{length};
 ghost use Rattle.config.specs.Config.{among, dctLengths};
 ghost use Rattle.windows.specs.Windows.{Numbers};
-ghost use Rattle.dct_iv.specs.DctIv.{dctIv};
+ghost use Rattle.dct_steps.specs.Dct.{dctIv};
 ghost use Rattle.synthesis_steps.specs.Places.{padded, unfolded, scaled, windowed, output, remains};
 
 // Inner. The DCT of the lines, which zeros follow, times the gain; the samples' slice is worked in, as in the Rust.

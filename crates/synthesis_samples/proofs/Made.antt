@@ -10,8 +10,8 @@ use Rattle.config.specs.Config.{valid, nf, z, ne, half, among, dctLengths}
 use Rattle.config.proofs.Sound.{sound}
 use Rattle.windows.specs.Windows.{window}
 use Rattle.twiddles.specs.Twiddles.{gain}
-use Rattle.dct_iv.specs.DctIv.{dctIv}
-use Rattle.dct_iv.proofs.Placed.{length-dctIv}
+use Rattle.dct_steps.specs.Dct.{dctIv}
+use Rattle.dct_steps.proofs.Placed.{length-dctIv}
 use Rattle.synthesis_steps.specs.Places.{padded, unfolded, scaled, windowed, output, remains}
 use Rattle.synthesis_steps.proofs.Places.{length-padded}
 use Rattle.synthesis_steps.proofs.Mirrors.{unfolded-scaled}

@@ -4,7 +4,7 @@ use Prim.Native.Nat.{ℕ}
 use lib.Dec.{T}
 use borrow.Author.Needs.{needs}
 use Rattle.config.specs.Config.{among, dctLengths}
-use Rattle.dct_iv.specs.DctIv.{dctIv}
+use Rattle.dct_steps.specs.Dct.{dctIv}
 use Rattle.synthesis_steps.specs.Places.{scaled}
 use Rattle.synthesis_frame.proofs.apply_dct.Statement.{statement}
 use Rattle.synthesis_frame.proofs.apply_dct.Tie as tie

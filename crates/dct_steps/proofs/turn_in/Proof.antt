@@ -1,4 +1,4 @@
--- `dct_iv::turn_in` meets its contract. The loop's invariant: the first n points are in place, and the count back is as far from the end. Assumes nothing.
+-- `dct_steps::turn_in` meets its contract. The loop's invariant: the first n points are in place, and the count back is as far from the end. Assumes nothing.
 use mathlib.Core.Path.{_≡_, refl, ap, ap₂, _∙_}
 use Prim.Native.Nat.{ℕ, _+_, _-_, _*_, _≤_}
 use native.Mathlib.Omega.{arith}
@@ -9,9 +9,9 @@ use Rattle.complex.specs.Complex.{parts, at, times}
 use Rattle.kf_work.specs.Work.{within}
 use Rattle.kf_work.proofs.Spread.{within-none, filled}
 use Rattle.kf_work.proofs.Sizes.{are-lists}
-use Rattle.dct_iv.specs.DctIv.{point}
-use Rattle.dct_iv.proofs.turn_in.Statement.{statement}
-use Rattle.dct_iv.proofs.turn_in.Tie as tie
+use Rattle.dct_steps.specs.Dct.{point}
+use Rattle.dct_steps.proofs.turn_in.Statement.{statement}
+use Rattle.dct_steps.proofs.turn_in.Tie as tie
 
 abbrev Inv-loop : tie.InvT-loop
 Inv-loop buf dr di xr₀ xi₀ back₀ n₀ n-end xr xi back n =
