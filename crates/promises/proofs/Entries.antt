@@ -141,7 +141,6 @@ entries w =
       silence-300 = (λ κs a. free w, λ κs a g x y. returns w x y refl);
       scale = (λ κs a. free w, λ κs a g x y. once w (λ l. (tt, (l, (tt, tt)))));
       zeros = (λ κs a. free w, λ κs a g x y. once w (λ l. (tt, (l, tt))));
-      synthesis-gain = (λ κs a. free w, λ κs a g x y. once w (λ l. (tt, (l, (tt, tt)))));
       analysis-clear = (λ κs a. free w, λ κs a g x y. returns w x y refl);
       analysis-frame = (λ κs a. free w, λ κs a g x y. once′ w (λ (o : analysis.Given × analysisChannel.Channel). (analysis-framed o, (tt, (tt, (o .0 .lines, (o .0 .energies, tt)))))));
       synthesis-clear = (λ κs a. free w, λ κs a g x y. returns w x y refl);

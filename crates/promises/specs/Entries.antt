@@ -101,7 +101,6 @@ use Rattle.dct_iv.proofs.dct_iv
 use Rattle.analysis_steps.proofs.silence_300
 use Rattle.analysis_steps.proofs.scale
 use Rattle.synthesis_steps.proofs.zeros
-use Rattle.synthesis_steps.proofs.gain as synthesis-gain
 use Rattle.analysis.proofs.clear as analysis-clear
 use Rattle.analysis.proofs.Channel.frame as analysis-frame
 use Rattle.synthesis.proofs.clear as synthesis-clear
@@ -278,7 +277,6 @@ pub record Entries (w : World) : Type 1 where
   pub silence-300 : Entry w silence_300.ended silence_300.clauses
   pub scale : Entry w scale.ended scale.clauses
   pub zeros : Entry w zeros.ended zeros.clauses
-  pub synthesis-gain : Entry w synthesis-gain.ended synthesis-gain.clauses
   -- analysis
   pub analysis-clear : Entry w analysis-clear.ended analysis-clear.clauses
   pub analysis-frame : Entry w analysis-frame.ended analysis-frame.clauses

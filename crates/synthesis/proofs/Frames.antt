@@ -13,7 +13,7 @@ use Rattle.laws.specs.Passes.{passes6}
 use Rattle.config.specs.Config.{valid, nf, ne}
 use Rattle.synthesis.specs.declared.Channel.{Channel}
 use Rattle.synthesis_samples.specs.Samples.{samplesOf}
-use Rattle.synthesis.specs.Synthesis.{keptOf, channelOf, clearing, cleared, Lent, Given, number, index, accepted, framed, frames}
+use Rattle.synthesis.specs.Synthesis.{keptOf, channelOf, held, clearing, cleared, Lent, Given, number, index, framed, frames}
 
 pub clear-is : (c : ℕ) (b v : Bool) → v ≡ b → v ≡ valid c → cleared c ≡ clearing b c
 unfolding cleared
@@ -65,14 +65,11 @@ unfolding frames
 refused ch x zero k e f h = absurd (h refl)
 refused ch x (suc n) k e f h = ap (λ (m : ℕ). framed m ch x) (sym e) ∙ ap (λ (i : ℕ). (record { number = suc n; index = i; samples = x .samples }, ch)) (sym f)
 
--- a call that is not refused
-pub taken : (ch : Channel) (x : Lent) → number (ch .config) x ≡ 0 → frames ch x ≡ framed 0 ch x
+-- a call that is not refused, and what it has made
+pub taken : (ch : Channel) (x : Lent) (n k : ℕ) {s m : List Float} → n ≡ number (ch .config) x → k ≡ index n x → n ≡ 0
+    → m ≡ keptOf (ch .config) (x .lines) → s ≡ samplesOf (ch .config) (held ch) (x .lines)
+    → _≡_ {A = Given × Channel} (frames ch x) (record { number = n; index = k; samples = s }, channelOf (ch .config) m)
 unfolding frames
-taken ch x e = ap (λ (k : ℕ). framed k ch x) e
-
--- what it has made
-pub made : (c : ℕ) (past x s m : List Float) (ch : Channel) → s ≡ samplesOf c past x → m ≡ keptOf c x → ch ≡ channelOf c m
-    → _≡_ {A = Given × Channel} (accepted c past x) (record { number = 0; index = 0; samples = s }, ch)
-made c past x s m ch p q r =
-    let u = r ∙ ap (channelOf c) q in
-    λ i. (record { number = 0; index = 0; samples = sym p i }, sym u i)
+taken ch x n k e f h p q =
+    let u = f ∙ ap (λ (j : ℕ). index j x) h in
+    ap (λ (j : ℕ). framed j ch x) (sym e ∙ h) ∙ (λ i. (record { number = sym h i; index = sym u i; samples = sym q i }, channelOf (ch .config) (sym p i)))

@@ -1,9 +1,9 @@
 -- What the callees ensure, put together, is the definition of the frame. Assumes nothing.
-use mathlib.Core.Path.{_≡_, sym, ap, _∙_}
+use mathlib.Core.Path.{_≡_, sym, ap, ap₂, _∙_}
 use mathlib.Core.List.{List, _++_}
 use Prim.Native.Nat.{ℕ, _-_, _≤_}
 use native.Mathlib.Omega.{arith}
-use lib.ListN.{length, drop, replicate, length-append, length-drop}
+use lib.ListN.{length, drop, replicate, length-drop}
 use lib.Ieee.{Float}
 use borrow.Rule.Slice.PartMut.{midOf, putMid}
 use Rattle.laws.specs.Numbers.{zero32}
@@ -22,15 +22,10 @@ keeps c x e {k} f =
     (omega arith, omega arith, omega arith)
 
 -- the memory as the channel keeps it: what the frame left, and zeros to the end
-pub made-kept : (c n : ℕ) (x old : List Float) {p q : List Float} → length old ≡ 300 → n ≤ 300 → n ≡ nf c - z c → length p ≡ n → p ≡ memoryOf c x → q ≡ replicate (length (midOf n (300 - n) (p ++ drop n old))) zero32
-    → putMid n (300 - n) (p ++ drop n old) q ≡ keptOf c x
+pub made-kept : (c n : ℕ) (x old : List Float) {p q : List Float} → length old ≡ 300 → n ≡ nf c - z c → length p ≡ n → p ≡ memoryOf c x
+    → q ≡ replicate (length (midOf n (length (p ++ drop n old) - n) (p ++ drop n old))) zero32
+    → putMid n (length (p ++ drop n old) - n) (p ++ drop n old) q ≡ keptOf c x
 unfolding keptOf
-made-kept c n x old {p} {q} l b e o i j =
-    let long : 300 ≡ length (p ++ drop n old) = omega (arith, length-append p (drop n old), length-drop n old) in
+made-kept c n x old {p} {q} l e o i j =
     let m = ap length (sym i) ∙ o in
-    let r : length (drop n old) ≡ 300 - (nf c - z c) = omega (arith, length-drop n old) in
-    ap (λ (k : ℕ). putMid n (k - n) (p ++ drop n old) q) long
-    ∙ two-parts n old i m
-    (j
-    ∙ ap (λ (k : ℕ). replicate (length (midOf n (k - n) (p ++ drop n old))) zero32) long
-    ∙ ap (λ (k : ℕ). replicate k zero32) (ap length (second-lent n old i m) ∙ r))
+    two-parts n old i m (j ∙ ap (λ (k : ℕ). replicate k zero32) (ap length (second-lent n old i m) ∙ length-drop n old ∙ ap₂ (λ (a b : ℕ). a - b) l e))

@@ -2,9 +2,10 @@
 // Ported from src/decoder/modified_dct.rs of lc3-codec 0.2.0, and changed: a configuration number picks the tables, the channel goes in by value
 // and comes back, the work areas are the frame's own, and a call with wrong lengths or lines is refused.
 ghost use mathlib.Core.Path.{_≡_};
-ghost use lib.ListN.{replicate};
+ghost use lib.ListN.{length, replicate};
 ghost use Rattle.laws.specs.Numbers.{zero32};
-ghost use Rattle.synthesis.specs.Synthesis.{channelOf, held, silent, cleared, number, index, accepted, frames, lent, outcome};
+ghost use Rattle.synthesis.specs.Synthesis.{keptOf, channelOf, held, silent, cleared, number, index, frames, lent, outcome};
+ghost use Rattle.synthesis_samples.specs.Samples.{samplesOf};
 use config::Verdict;
 
 // What a stream keeps between frames: the last places of the frame before, and zeros at the places that its configuration has no use for.
@@ -102,43 +103,41 @@ fn refusal(c: u8, lines: &[f32], samples: &[f32]) -> Verdict
     }
 }
 
+// The step of a call that is not refused, on a memory of 300 places, which is lent as a slice: no part of an array is lent through a reference.
+fn step_slice(config: u8, lines: &[f32], memory: &mut [f32], samples: &mut [f32])
+    requires { ⌜ (number config (lent (now lines) (now samples)) ≡ 0) × (length (now memory) ≡ 300) ⌝ }
+    ensures memory { λ _. ⌜ now (memory .exit) ≡ keptOf config (now (lines .entry)) ⌝ }
+    ensures samples { λ _. ⌜ now (samples .exit) ≡ samplesOf config (held (channelOf config (now (memory .entry)))) (now (lines .entry)) ⌝ }
+{
+    let keep = samples.len() - config::z(config);
+    synthesis_samples::samples_of(config, lines, &mut memory[..keep], samples);
+    synthesis_steps::zeros(&mut memory[keep..]);
+}
+
+// The same on the memory where the channel has it.
+fn step(config: u8, lines: &[f32], memory: &mut [f32; 300], samples: &mut [f32])
+    requires { ⌜ number config (lent (now lines) (now samples)) ≡ 0 ⌝ }
+    ensures memory { λ _. ⌜ now (memory .exit) ≡ keptOf config (now (lines .entry)) ⌝ }
+    ensures samples { λ _. ⌜ now (samples .exit) ≡ samplesOf config (held (channelOf config (now (memory .entry)))) (now (lines .entry)) ⌝ }
+{
+    step_slice(config, lines, memory, samples);
+}
+
 impl Channel {
-    // A call's result has a known length, which a field of a struct has not.
-    fn memory(self) -> [f32; 300]
-        ensures { λ r. ⌜ r ≡ self .memory ⌝ }
-    {
-        self.memory
-    }
-
-    // A call that is not refused.
-    fn accepted(self, lines: &[f32], samples: &mut [f32]) -> Framed
-        requires { ⌜ number (self .config) (lent (now lines) (now samples)) ≡ 0 ⌝ }
-        ensures { λ r. ⌜ accepted (self .config) (held self) (now (lines .entry)) ≡ outcome r (now (samples .exit)) ⌝ }
-    {
-        let config = self.config;
-        let mut memory = self.memory();
-        let keep = samples.len() - config::z(config);
-        synthesis_samples::samples_of(config, lines, &mut memory[..keep], samples);
-        synthesis_steps::zeros(&mut memory[keep..]);
-        Framed {
-            number: 0,
-            index: 0,
-            channel: Channel::new(config, memory),
-        }
-    }
-
     // Entry. A frame of lines to its samples, or a refusal that writes nothing and hands the channel back.
     pub fn frame(self, lines: &[f32], samples: &mut [f32]) -> Framed
         ensures { λ r. ⌜ frames self (lent (now (lines .entry)) (now (samples .entry))) ≡ outcome r (now (samples .exit)) ⌝ }
     {
-        let v = refusal(self.config, lines, samples);
-        if v.number != 0 {
-            return Framed {
-                number: v.number,
-                index: v.index,
-                channel: self,
-            };
+        let config = self.config;
+        let v = refusal(config, lines, samples);
+        let mut framed = Framed {
+            number: v.number,
+            index: v.index,
+            channel: self,
+        };
+        if v.number == 0 {
+            step(config, lines, &mut framed.channel.memory, samples);
         }
-        self.accepted(lines, samples)
+        framed
     }
 }

@@ -9,30 +9,30 @@ ghost use Rattle.windows.specs.Windows.{Numbers};
 ghost use Rattle.dct_steps.specs.Dct.{dctIv};
 ghost use Rattle.synthesis_steps.specs.Places.{padded, unfolded, scaled, windowed, output, remains};
 
-// Inner. The DCT of the lines, which zeros follow, times the gain; the samples' slice is worked in, as in the Rust.
-pub fn apply_dct(lines: &[f32], g: f32, samples: &mut [f32])
+// Inner. The DCT of the lines, which zeros follow; the samples' slice is worked in, as in the Rust.
+pub fn apply_dct(lines: &[f32], samples: &mut [f32])
     requires { ⌜ (length (now lines) ≤ length (now samples)) × T (among dctLengths (length (now samples))) ⌝ }
-    ensures { λ _. ⌜ now (samples .exit) ≡ scaled g (dctIv (padded (length (now (samples .entry))) (now (lines .entry)))) ⌝ }
+    ensures { λ _. ⌜ now (samples .exit) ≡ dctIv (padded (length (now (samples .entry))) (now (lines .entry))) ⌝ }
 {
     synthesis_steps::pad(lines, samples);
     dct_iv::run(samples);
-    synthesis_steps::gain(samples, g);
 }
 
-// Inner. These values, which stand in the samples' slice, to samples and memory. They are moved to v, a work area of nf places.
+// Inner. These values, which stand in the samples' slice, to samples and memory. They are moved to v, a work area of nf places, times the gain.
 pub fn overlap_add(
     v: &mut [f32],
     w: &[u32],
     memory: &mut [f32],
     samples: &mut [f32],
+    g: f32,
     z: usize,
     h: usize,
 )
     requires { ⌜ (h ≤ 240) × (z ≤ h) × (length (now v) ≡ 2 * h) × (length (now w) ≡ 4 * h) × Numbers (now w) × (length (now memory) ≡ 2 * h - z) × (length (now samples) ≡ 2 * h) ⌝ }
-    ensures values { λ _. ⌜ now (v .exit) ≡ now (samples .entry) ⌝ }
-    ensures memory { λ _. ⌜ now (memory .exit) ≡ remains (2 * h) z (windowed (now (w .entry)) (unfolded h (now (samples .entry)))) ⌝ }
-    ensures samples { λ _. ⌜ now (samples .exit) ≡ output (2 * h) z (now (memory .entry)) (windowed (now (w .entry)) (unfolded h (now (samples .entry)))) ⌝ }
+    ensures values { λ _. ⌜ now (v .exit) ≡ scaled g (now (samples .entry)) ⌝ }
+    ensures memory { λ _. ⌜ now (memory .exit) ≡ remains (2 * h) z (windowed (now (w .entry)) (unfolded h (scaled g (now (samples .entry))))) ⌝ }
+    ensures samples { λ _. ⌜ now (samples .exit) ≡ output (2 * h) z (now (memory .entry)) (windowed (now (w .entry)) (unfolded h (scaled g (now (samples .entry))))) ⌝ }
 {
-    synthesis_steps::copy(samples, v);
+    synthesis_steps::scaled(samples, g, v);
     synthesis_steps::overlap_add(v, w, memory, samples, z, h);
 }

@@ -24,14 +24,14 @@ pub dct-takes : (c : ℕ) {l n : ℕ} → T (valid c) → l ≡ ne c → n ≡ n
 dct-takes c v e f = let s = sound c v in (omega arith, subst (λ (n : ℕ). T (among dctLengths n)) (sym f) (s .dct-length))
 
 -- the gain comes before the unfolding in the code, and behind it in the definition
-module _ (c : ℕ) (v : T (valid c)) (x : List Float) (ex : length x ≡ ne c) {n k : ℕ} {g : Float} {y : List Float} (en : n ≡ nf c) (ek : k ≡ nf c) (eg : g ≡ gain k) (ey : y ≡ scaled g (dctIv (padded n x))) where
+module _ (c : ℕ) (v : T (valid c)) (x : List Float) (ex : length x ≡ ne c) {n : ℕ} {y : List Float} (en : n ≡ nf c) (ey : y ≡ dctIv (padded n x)) where
   as-many : length (dctIv (padded (nf c) x)) ≡ 2 * half c
   as-many = let s = sound c v in length-dctIv (padded (nf c) x) ∙ length-padded (nf c) x (omega arith) ∙ s .even
 
   made-places : under c y ≡ placesOf c x
   unfolding placesOf places
   made-places =
-      ap (under c) (ey ∙ (λ j. scaled ((eg ∙ ap gain ek) j) (dctIv (padded (en j) x))))
+      ap (under c) (ey ∙ ap (λ (m : ℕ). dctIv (padded m x)) en)
       ∙ ap (windowed (window c)) (unfolded-scaled (half c) (gain (nf c)) (dctIv (padded (nf c) x)) as-many)
       ∙ ap (λ (m : ℕ). windowed (window c) (scaled (gain (nf c)) (unfolded (half c) (dctIv (padded m x))))) (sound c v .even)
 

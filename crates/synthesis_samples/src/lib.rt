@@ -14,6 +14,6 @@ pub fn samples_of(c: u8, lines: &[f32], memory: &mut [f32], samples: &mut [f32])
     ensures memory { λ _. ⌜ now (memory .exit) ≡ memoryOf c (now (lines .entry)) ⌝ }
     ensures samples { λ _. ⌜ now (samples .exit) ≡ samplesOf c (now (memory .entry)) (now (lines .entry)) ⌝ }
 {
-    synthesis_frame::apply_dct(lines, twiddles::gain(samples.len()), samples);
+    synthesis_frame::apply_dct(lines, samples);
     synthesis_overlap::overlap_of(c, memory, samples);
 }

@@ -10,8 +10,8 @@ ghost use Rattle.laws.specs.Numbers.{zero32};
 ghost use Rattle.synthesis_steps.specs.Places.{padded, unfolded, scaled, windowed, output, remains};
 ghost use Rattle.windows.specs.Windows.{Numbers};
 
-// Inner. copy_from_slice: all of `to` from `from`.
-pub fn copy(from: &[f32], to: &mut [f32])
+// copy_from_slice: all of `to` from `from`.
+fn copy(from: &[f32], to: &mut [f32])
     requires { ⌜ length (now from) ≡ length (now to) ⌝ }
     ensures { λ _. ⌜ now (to .exit) ≡ now (from .entry) ⌝ }
 {
@@ -33,13 +33,14 @@ pub fn zeros(to: &mut [f32])
     }
 }
 
-// Inner. Every place times the gain.
-pub fn gain(t: &mut [f32], g: f32)
-    ensures { λ _. ⌜ now (t .exit) ≡ scaled g (now (t .entry)) ⌝ }
+// Inner. All of `to` from `from`, every place times the gain.
+pub fn scaled(from: &[f32], g: f32, to: &mut [f32])
+    requires { ⌜ length (now from) ≡ length (now to) ⌝ }
+    ensures { λ _. ⌜ now (to .exit) ≡ scaled g (now (from .entry)) ⌝ }
 {
     let mut i = 0;
-    while i < t.len() {
-        t[i] = t[i] * g;
+    while i < to.len() {
+        to[i] = from[i] * g;
         i += 1;
     }
 }

@@ -1,4 +1,4 @@
--- `synthesis_frame::overlap_add` meets its contract: the values, moved aside, are unfolded from there. Assumes nothing.
+-- `synthesis_frame::overlap_add` meets its contract: the values, moved aside and scaled, are unfolded from there. Assumes nothing.
 use mathlib.Core.Path.{ap, _∙_}
 use mathlib.Core.List.{List}
 use Prim.Native.Nat.{_*_}
@@ -6,18 +6,19 @@ use lib.ListN.{length}
 use lib.Ieee.{Float}
 use borrow.Author.Needs.{needs}
 use Rattle.synthesis_steps.specs.Places.{unfolded, windowed, output, remains}
+use Rattle.synthesis_steps.proofs.Places.{length-scaled}
 use Rattle.synthesis_frame.proofs.overlap_add.Statement.{statement}
 use Rattle.synthesis_frame.proofs.overlap_add.Tie as tie
 
 overlap-add-requires : tie.Need-overlap-add-requires
 overlap-add-requires c κs =
     let p = c .before .before .before .before .before .before .before .before .before .before .before .before .pre in
-    (p .0, p .1, ap length (c .before .before .before .before .before .copy .ensures) ∙ p .6, p .3, p .4, p .5, p .6)
+    (p .0, p .1, ap length (c .before .before .before .before .before .scaled .ensures) ∙ length-scaled (c .before .before .before .before .before .before .before .before .before .before .before .before .args .g) (c .before .before .before .before .before .before .before .before .before .before .before .before .args .samples .now) ∙ p .6, p .3, p .4, p .5, p .6)
 
 returns : tie.Need-returns
 returns c =
     let a = c .before .before .before .before .before .before .before .before .before .before .before .before .before .before .before .before .before .args in
-    let moved = c .before .before .before .before .before .before .before .before .before .before .copy .ensures in
+    let moved = c .before .before .before .before .before .before .before .before .before .before .scaled .ensures in
     let o = c .before .before .before .before .overlap-add .ensures in (
       moved,
       (

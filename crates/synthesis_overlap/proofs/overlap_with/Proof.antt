@@ -1,16 +1,20 @@
 -- `synthesis_overlap::overlap_with` meets its contract: the steps, in the configuration's terms. Assumes nothing.
-use mathlib.Core.Path.{ap}
+use mathlib.Core.Path.{_≡_, ap, _∙_}
 use native.Mathlib.Omega.{arith}
 use lib.ListN.{length}
+use lib.Ieee.{Float}
 use borrow.Author.Needs.{needs}
+use Rattle.config.specs.Config.{nf}
 use Rattle.config.proofs.Sound.{sound}
+use Rattle.twiddles.specs.Twiddles.{gain}
+use Rattle.synthesis_steps.specs.Places.{scaled}
 use Rattle.synthesis_overlap.proofs.Made.{asked, with-memory, with-samples}
 use Rattle.synthesis_overlap.proofs.overlap_with.Statement.{statement}
 use Rattle.synthesis_overlap.proofs.overlap_with.Tie as tie
 
 overlap-add-requires : tie.Need-overlap-add-requires
 overlap-add-requires c κs =
-    let st = c .before .before .before .before .before .before .before .before .before in
+    let st = c .before .before .before .before .before .before .before .before .before .before in
     let p = st .pre in
     let s = sound (st .args .c) (p .0) in
     let q = asked (st .args .c) (p .0) in
@@ -20,15 +24,19 @@ overlap-add-requires c κs =
 
 returns : tie.Need-returns
 returns c =
-    let st = c .before .before .before .before .before .before .before .before .before .before .before .before .before .before .before .before in
+    let st = c .before .before .before .before .before .before .before .before .before .before .before .before .before .before .before .before .before in
     let a = st .args in
+    let p = st .pre in
+    let s = sound (a .c) (p .0) in
+    let n : length (a .v .now) ≡ nf (a .c) = omega (arith, p .2, ap length (p .1), asked (a .c) (p .0) .window-long) in
     let o = c .before .before .before .before .before .before .overlap-add .ensures in
+    let g = c .before .before .before .before .before .before .before .before .before .before .before .before .gain .ensures ∙ ap gain n in
     let h = c .before .before .before .before .before .before .before .half .ensures in
     let k = c .before .before .before .before .before .before .before .before .z .ensures in (
-      o .0,
+      o .0 ∙ ap (λ (r : Float). scaled r (a .samples .now)) g,
       (
-        with-memory (a .c) (st .pre .0) (a .samples .now) h k (st .pre .1) (o .1 .0),
-        with-samples (a .c) (st .pre .0) (a .samples .now) h k (st .pre .1) (a .memory .now) (o .1 .1),
+        with-memory (a .c) (p .0) (a .samples .now) g h k (p .1) (o .1 .0),
+        with-samples (a .c) (p .0) (a .samples .now) g h k (p .1) (a .memory .now) (o .1 .1),
       ),
     )
 
@@ -36,6 +44,7 @@ pub overlap-with-spec : {M : Type 1} → statement M
 overlap-with-spec =
     tie.close
     (tie.spec
+    (λ c κs. search needs)
     (λ c κs. search needs)
     (λ c κs. search needs)
     overlap-add-requires

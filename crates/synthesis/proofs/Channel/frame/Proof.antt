@@ -1,4 +1,4 @@
--- `synthesis::Channel::frame` meets its contract: a refusal by its number and index, and what is not refused. Assumes nothing.
+-- `synthesis::Channel::frame` meets its contract: what is not refused, and a refusal by its number and index. Assumes nothing.
 use mathlib.Core.Path.{sym, _∙_}
 use borrow.Author.Needs.{needs}
 use Rattle.synthesis.specs.Synthesis.{lent}
@@ -8,17 +8,16 @@ use Rattle.synthesis.proofs.Channel.frame.Tie as tie
 
 returns : tie.Need-returns
 returns c =
-    let a = c .before .before .before .before .before .before .args in
-    let r = c .before .before .refusal .ensures in
-    refused (a .self) (lent (a .lines .now) (a .samples .now)) _ _ (r .0) (r .1) (c .if1 .taken)
-
-accepted-requires : tie.Need-accepted-requires
-accepted-requires c κs = sym (c .before .before .before .refusal .ensures .0) ∙ c .before .if1 .left
+    let a = c .before .before .before .before .before .before .before .before .before .before .before .args in
+    let r = c .before .before .before .before .before .before .before .refusal .ensures in
+    let s = c .before .before .step .ensures in
+    taken (a .self) (lent (a .lines .now) (a .samples .now)) _ _ (r .0) (r .1) (c .before .before .before .before .before .if1 .taken) (s .0) (s .1)
 
 returns-2 : tie.Need-returns-2
 returns-2 c =
-    let a = c .before .before .before .before .before .before .before .before .before .before .args in
-    taken (a .self) (lent (a .lines .now) (a .samples .now)) (sym (c .before .before .before .before .before .before .refusal .ensures .0) ∙ c .before .before .before .before .if1 .left) ∙ c .before .before .accepted .ensures
+    let a = c .before .before .before .before .before .before .args in
+    let r = c .before .before .refusal .ensures in
+    refused (a .self) (lent (a .lines .now) (a .samples .now)) _ _ (r .0) (r .1) (c .if1 .left)
 
 -- the needs without a name, for any answer: a wrong one hides none of them
 safe : tie.Need-returns → tie.Need-returns-2 → {M : Type 1} → statement M
@@ -26,9 +25,9 @@ safe returns returns-2 =
     tie.close
     (tie.spec
     (λ c κs. search needs)
+    (λ c κs. search needs)
     (λ c. search needs)
     returns
-    accepted-requires
     (λ c. search needs)
     returns-2)
 
