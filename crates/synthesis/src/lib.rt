@@ -103,7 +103,7 @@ fn refusal(c: u8, lines: &[f32], samples: &[f32]) -> Verdict
     }
 }
 
-// The step of a call that is not refused, on a memory of 300 places, which is lent as a slice: no part of an array is lent through a reference.
+// The step of a call that is not refused. The memory, of 300 places, comes as a slice: the checker follows no part of an array behind a reference.
 fn step_slice(config: u8, lines: &[f32], memory: &mut [f32], samples: &mut [f32])
     requires { ⌜ (number config (lent (now lines) (now samples)) ≡ 0) × (length (now memory) ≡ 300) ⌝ }
     ensures memory { λ _. ⌜ now (memory .exit) ≡ keptOf config (now (lines .entry)) ⌝ }
