@@ -38,6 +38,11 @@ kf-work-at t = and 7 kf-work-kinds.ps (is 7 kf-work-kinds.ps μ-kf-work t) kf-wo
 abbrev kf-work-below : ℕ → In 7 kf-work-kinds.ps
 kf-work-below t = and 7 kf-work-kinds.ps (falls 7 kf-work-kinds.ps _<_ μ-kf-work t) kf-work.Pre
 
+-- what the functions called here ask and leave; of the recursive call, with a smaller measure
+abbrev kf-work-claims : ℕ → kf-work-lts.Claims
+kf-work-claims t =
+    (kf-leaves-reads.Asked, kf-leaves-reads.Learnt, kf-fives-reads.Asked, kf-fives-reads.Learnt, kf-work-below t, kf-work.Post, kf-bfly-reads.Asked, kf-bfly-reads.Learnt)
+
 abbrev kf-work-Inv-loop : kf-work-lts.InvT-loop
 kf-work-Inv-loop re₀ im₀ x y tr ti plan fstride from inverse p m k ur ui rest q₀ re im q =
     (length re ≡ length re₀)
@@ -48,7 +53,7 @@ kf-work-Inv-loop re₀ im₀ x y tr ti plan fstride from inverse p m k ur ui res
 abbrev kf-work-μ-loop : kf-work-lts.MeasureT-loop
 kf-work-μ-loop re₀ im₀ x y tr ti plan fstride from inverse p m k ur ui rest q₀ re im q = p - q
 
-module _ (t : ℕ) (st : kf-work-lts.Start (kf-leaves-reads.Asked, kf-leaves-reads.Learnt, kf-fives-reads.Asked, kf-fives-reads.Learnt, kf-work-below t, kf-work.Post, kf-bfly-reads.Asked, kf-bfly-reads.Learnt) (kf-work-at t) kf-work.Post kf-work-Inv-loop kf-work-μ-loop) where
+module _ (t : ℕ) (st : kf-work-lts.Start (kf-work-claims t) (kf-work-at t) kf-work.Post kf-work-Inv-loop kf-work-μ-loop) where
   abbrev ps : List ℕ
   ps = st .args .plan .now
 
@@ -102,160 +107,7 @@ module _ (t : ℕ) (st : kf-work-lts.Start (kf-leaves-reads.Asked, kf-leaves-rea
       rw (work-is u (at (st .args .x .now) (st .args .y .now)) (st .args .inverse) ps _ _ _ (st .args .fstride) (st .args .from) first, ← all)
       (finish radix inner (packedColumn u (st .args .inverse) radix inner) (column-local u (st .args .inverse) radix inner (here .0) (here .1)) (here .2) below _ g g′ (rw (← all) at before) turned)
 
-kf-work-shared-slice-read-p : (t : ℕ) → kf-work-lts.Need-shared-slice-read-p (
-  kf-leaves-reads.Asked,
-  kf-leaves-reads.Learnt,
-  kf-fives-reads.Asked,
-  kf-fives-reads.Learnt,
-  kf-work-below t,
-  kf-work.Post,
-  kf-bfly-reads.Asked,
-  kf-bfly-reads.Learnt,
-) (kf-work-at t) kf-work.Post kf-work-Inv-loop kf-work-μ-loop
-kf-work-shared-slice-read-p t c = omega (arith, here t (c .before .before .before .before .before .before .before .before))
-
-kf-work-shared-slice-read-m : (t : ℕ) → kf-work-lts.Need-shared-slice-read-m (
-  kf-leaves-reads.Asked,
-  kf-leaves-reads.Learnt,
-  kf-fives-reads.Asked,
-  kf-fives-reads.Learnt,
-  kf-work-below t,
-  kf-work.Post,
-  kf-bfly-reads.Asked,
-  kf-bfly-reads.Learnt,
-) (kf-work-at t) kf-work.Post kf-work-Inv-loop kf-work-μ-loop
-kf-work-shared-slice-read-m t c = omega (arith, here t (c .before .before .before .before .before .before .before .before .before))
-
-kf-work-sub-k : (t : ℕ) → kf-work-lts.Need-sub-k (
-  kf-leaves-reads.Asked,
-  kf-leaves-reads.Learnt,
-  kf-fives-reads.Asked,
-  kf-fives-reads.Learnt,
-  kf-work-below t,
-  kf-work.Post,
-  kf-bfly-reads.Asked,
-  kf-bfly-reads.Learnt,
-) (kf-work-at t) kf-work.Post kf-work-Inv-loop kf-work-μ-loop
-kf-work-sub-k t c = omega (arith, here t (c .before .before .before .before .before .before .before .before .before))
-
-kf-work-mul-k : (t : ℕ) → kf-work-lts.Need-mul-k (
-  kf-leaves-reads.Asked,
-  kf-leaves-reads.Learnt,
-  kf-fives-reads.Asked,
-  kf-fives-reads.Learnt,
-  kf-work-below t,
-  kf-work.Post,
-  kf-bfly-reads.Asked,
-  kf-bfly-reads.Learnt,
-) (kf-work-at t) kf-work.Post kf-work-Inv-loop kf-work-μ-loop
-kf-work-mul-k t c = omega (arith, here t (c .before .before .before .before .before .before .before .before .before), c .before .before .before .before .before .before .before .before .before .good .1 .1 .1 .1 .0)
-
-kf-work-mul-ur : (t : ℕ) → kf-work-lts.Need-mul-ur (
-  kf-leaves-reads.Asked,
-  kf-leaves-reads.Learnt,
-  kf-fives-reads.Asked,
-  kf-fives-reads.Learnt,
-  kf-work-below t,
-  kf-work.Post,
-  kf-bfly-reads.Asked,
-  kf-bfly-reads.Learnt,
-) (kf-work-at t) kf-work.Post kf-work-Inv-loop kf-work-μ-loop
-kf-work-mul-ur t c = omega (arith, here t (c .before .before .before .before .before .before .before .before .before), c .before .before .before .before .before .before .before .before .before .good .1 .1 .1 .1 .0)
-
-kf-work-sub-ur : (t : ℕ) → kf-work-lts.Need-sub-ur (
-  kf-leaves-reads.Asked,
-  kf-leaves-reads.Learnt,
-  kf-fives-reads.Asked,
-  kf-fives-reads.Learnt,
-  kf-work-below t,
-  kf-work.Post,
-  kf-bfly-reads.Asked,
-  kf-bfly-reads.Learnt,
-) (kf-work-at t) kf-work.Post kf-work-Inv-loop kf-work-μ-loop
-kf-work-sub-ur t c = omega (arith, here t (c .before .before .before .before .before .before .before .before .before), c .before .before .before .before .before .before .before .before .before .good .1 .1 .1 .1 .0)
-
-kf-work-part-ur-start : (t : ℕ) → kf-work-lts.Need-part-ur-start (
-  kf-leaves-reads.Asked,
-  kf-leaves-reads.Learnt,
-  kf-fives-reads.Asked,
-  kf-fives-reads.Learnt,
-  kf-work-below t,
-  kf-work.Post,
-  kf-bfly-reads.Asked,
-  kf-bfly-reads.Learnt,
-) (kf-work-at t) kf-work.Post kf-work-Inv-loop kf-work-μ-loop
-kf-work-part-ur-start t c = omega (arith, here t (c .before .before .before .before .before .before .before .before .before))
-
-kf-work-part-ur-end : (t : ℕ) → kf-work-lts.Need-part-ur-end (
-  kf-leaves-reads.Asked,
-  kf-leaves-reads.Learnt,
-  kf-fives-reads.Asked,
-  kf-fives-reads.Learnt,
-  kf-work-below t,
-  kf-work.Post,
-  kf-bfly-reads.Asked,
-  kf-bfly-reads.Learnt,
-) (kf-work-at t) kf-work.Post kf-work-Inv-loop kf-work-μ-loop
-kf-work-part-ur-end t c = search needs
-
-kf-work-mul-ui : (t : ℕ) → kf-work-lts.Need-mul-ui (
-  kf-leaves-reads.Asked,
-  kf-leaves-reads.Learnt,
-  kf-fives-reads.Asked,
-  kf-fives-reads.Learnt,
-  kf-work-below t,
-  kf-work.Post,
-  kf-bfly-reads.Asked,
-  kf-bfly-reads.Learnt,
-) (kf-work-at t) kf-work.Post kf-work-Inv-loop kf-work-μ-loop
-kf-work-mul-ui t c = omega (arith, here t (c .before .before .before .before .before .before .before .before .before .before), c .before .before .before .before .before .before .before .before .before .before .good .1 .1 .1 .1 .0)
-
-kf-work-sub-ui : (t : ℕ) → kf-work-lts.Need-sub-ui (
-  kf-leaves-reads.Asked,
-  kf-leaves-reads.Learnt,
-  kf-fives-reads.Asked,
-  kf-fives-reads.Learnt,
-  kf-work-below t,
-  kf-work.Post,
-  kf-bfly-reads.Asked,
-  kf-bfly-reads.Learnt,
-) (kf-work-at t) kf-work.Post kf-work-Inv-loop kf-work-μ-loop
-kf-work-sub-ui t c = omega (arith, here t (c .before .before .before .before .before .before .before .before .before .before), c .before .before .before .before .before .before .before .before .before .before .good .1 .1 .1 .1 .0)
-
-kf-work-part-ui-start : (t : ℕ) → kf-work-lts.Need-part-ui-start (
-  kf-leaves-reads.Asked,
-  kf-leaves-reads.Learnt,
-  kf-fives-reads.Asked,
-  kf-fives-reads.Learnt,
-  kf-work-below t,
-  kf-work.Post,
-  kf-bfly-reads.Asked,
-  kf-bfly-reads.Learnt,
-) (kf-work-at t) kf-work.Post kf-work-Inv-loop kf-work-μ-loop
-kf-work-part-ui-start t c = omega (arith, here t (c .before .before .before .before .before .before .before .before .before .before))
-
-kf-work-part-ui-end : (t : ℕ) → kf-work-lts.Need-part-ui-end (
-  kf-leaves-reads.Asked,
-  kf-leaves-reads.Learnt,
-  kf-fives-reads.Asked,
-  kf-fives-reads.Learnt,
-  kf-work-below t,
-  kf-work.Post,
-  kf-bfly-reads.Asked,
-  kf-bfly-reads.Learnt,
-) (kf-work-at t) kf-work.Post kf-work-Inv-loop kf-work-μ-loop
-kf-work-part-ui-end t c = search needs
-
-kf-work-kf-leaves-requires : (t : ℕ) → kf-work-lts.Need-kf-leaves-requires (
-  kf-leaves-reads.Asked,
-  kf-leaves-reads.Learnt,
-  kf-fives-reads.Asked,
-  kf-fives-reads.Learnt,
-  kf-work-below t,
-  kf-work.Post,
-  kf-bfly-reads.Asked,
-  kf-bfly-reads.Learnt,
-) (kf-work-at t) kf-work.Post kf-work-Inv-loop kf-work-μ-loop
+kf-work-kf-leaves-requires : (t : ℕ) → kf-work-lts.Need-kf-leaves-requires (kf-work-claims t) (kf-work-at t) kf-work.Post kf-work-Inv-loop kf-work-μ-loop
 kf-work-kf-leaves-requires t c κs =
     let st = c .before .before .before .before .before .before .before .before .before .before .before .before .before .before in
     let five = c .before .before .if1 .taken in
@@ -274,56 +126,14 @@ kf-work-kf-leaves-requires t c κs =
       omega (arith, all, st .pre .1 .9),
     )
 
-kf-work-kf-fives-requires : (t : ℕ) → kf-work-lts.Need-kf-fives-requires (
-  kf-leaves-reads.Asked,
-  kf-leaves-reads.Learnt,
-  kf-fives-reads.Asked,
-  kf-fives-reads.Learnt,
-  kf-work-below t,
-  kf-work.Post,
-  kf-bfly-reads.Asked,
-  kf-bfly-reads.Learnt,
-) (kf-work-at t) kf-work.Post kf-work-Inv-loop kf-work-μ-loop
+kf-work-kf-fives-requires : (t : ℕ) → kf-work-lts.Need-kf-fives-requires (kf-work-claims t) (kf-work-at t) kf-work.Post kf-work-Inv-loop kf-work-μ-loop
 kf-work-kf-fives-requires t c κs =
     let st = c .before .before .before .before .before .before .before .before .before .before .before .before .before .before .before .before .before .before .before .before .before in
     let h = here t st in
     let block : 5 * radix t st ≡ span (ps t st) = mul-comm 5 (radix t st) ∙ ap (λ (k : ℕ). radix t st * k) (sym (c .before .before .before .before .before .before .before .before .before .if1 .taken)) ∙ whole _ _ _ _ (first t st) in
     (h .0, h .1, omega (arith, block, st .pre .1 .6), omega (arith, block, st .pre .1 .7), omega (arith, block, st .pre .1 .8, c .before .before .before .before .before .before .kf-leaves .kept .0), omega (arith, block, st .pre .1 .9, c .before .before .before .before .before .before .kf-leaves .kept .1 .0))
 
-kf-work-same-length : (t : ℕ) → kf-work-lts.Need-same-length (
-  kf-leaves-reads.Asked,
-  kf-leaves-reads.Learnt,
-  kf-fives-reads.Asked,
-  kf-fives-reads.Learnt,
-  kf-work-below t,
-  kf-work.Post,
-  kf-bfly-reads.Asked,
-  kf-bfly-reads.Learnt,
-) (kf-work-at t) kf-work.Post kf-work-Inv-loop kf-work-μ-loop
-kf-work-same-length t c = c .before .before .before .before .kf-fives .kept .0 ∙ c .before .before .before .before .before .before .before .before .before .before .before .kf-leaves .kept .0
-
-kf-work-same-length-2 : (t : ℕ) → kf-work-lts.Need-same-length-2 (
-  kf-leaves-reads.Asked,
-  kf-leaves-reads.Learnt,
-  kf-fives-reads.Asked,
-  kf-fives-reads.Learnt,
-  kf-work-below t,
-  kf-work.Post,
-  kf-bfly-reads.Asked,
-  kf-bfly-reads.Learnt,
-) (kf-work-at t) kf-work.Post kf-work-Inv-loop kf-work-μ-loop
-kf-work-same-length-2 t c = c .before .before .before .before .kf-fives .kept .1 .0 ∙ c .before .before .before .before .before .before .before .before .before .before .before .kf-leaves .kept .1 .0
-
-kf-work-returns : (t : ℕ) → kf-work-lts.Need-returns (
-  kf-leaves-reads.Asked,
-  kf-leaves-reads.Learnt,
-  kf-fives-reads.Asked,
-  kf-fives-reads.Learnt,
-  kf-work-below t,
-  kf-work.Post,
-  kf-bfly-reads.Asked,
-  kf-bfly-reads.Learnt,
-) (kf-work-at t) kf-work.Post kf-work-Inv-loop kf-work-μ-loop
+kf-work-returns : (t : ℕ) → kf-work-lts.Need-returns (kf-work-claims t) (kf-work-at t) kf-work.Post kf-work-Inv-loop kf-work-μ-loop
 kf-work-returns t c =
     let st = c .before .before .before .before .before .before .before .before .before .before .before .before .before .before .before .before .before .before .before .before .before .before .before .before .before .before in
     let a = st .args in
@@ -332,220 +142,7 @@ kf-work-returns t c =
     (leaves-done _ _ (at (a .x .now) (a .y .now)) (a .inverse) (rest-of (ps t st)) _ _ _ (a .fstride) (a .from) (lent-on t st) five (lower t st .rest-below .innermost (sym (first t st .inner) ∙ five)) (whole _ _ _ _ (first t st)) _ _ (c .before .before .before .before .before .before .before .before .before .before .before .kf-leaves .ensures))
     (by-fives t st five _ _ (c .before .before .before .before .kf-fives .ensures))
 
-kf-work-sub-rest : (t : ℕ) → kf-work-lts.Need-sub-rest (
-  kf-leaves-reads.Asked,
-  kf-leaves-reads.Learnt,
-  kf-fives-reads.Asked,
-  kf-fives-reads.Learnt,
-  kf-work-below t,
-  kf-work.Post,
-  kf-bfly-reads.Asked,
-  kf-bfly-reads.Learnt,
-) (kf-work-at t) kf-work.Post kf-work-Inv-loop kf-work-μ-loop
-kf-work-sub-rest t c = omega (arith, here t (c .before .before .before .before .before .before .before .before .before .before .before .before))
-
-kf-work-part-rest-start : (t : ℕ) → kf-work-lts.Need-part-rest-start (
-  kf-leaves-reads.Asked,
-  kf-leaves-reads.Learnt,
-  kf-fives-reads.Asked,
-  kf-fives-reads.Learnt,
-  kf-work-below t,
-  kf-work.Post,
-  kf-bfly-reads.Asked,
-  kf-bfly-reads.Learnt,
-) (kf-work-at t) kf-work.Post kf-work-Inv-loop kf-work-μ-loop
-kf-work-part-rest-start t c = omega (arith, here t (c .before .before .before .before .before .before .before .before .before .before .before .before))
-
-kf-work-part-rest-end : (t : ℕ) → kf-work-lts.Need-part-rest-end (
-  kf-leaves-reads.Asked,
-  kf-leaves-reads.Learnt,
-  kf-fives-reads.Asked,
-  kf-fives-reads.Learnt,
-  kf-work-below t,
-  kf-work.Post,
-  kf-bfly-reads.Asked,
-  kf-bfly-reads.Learnt,
-) (kf-work-at t) kf-work.Post kf-work-Inv-loop kf-work-μ-loop
-kf-work-part-rest-end t c = search needs
-
-kf-work-loop-holds : (t : ℕ) → kf-work-lts.Need-loop-holds (
-  kf-leaves-reads.Asked,
-  kf-leaves-reads.Learnt,
-  kf-fives-reads.Asked,
-  kf-fives-reads.Learnt,
-  kf-work-below t,
-  kf-work.Post,
-  kf-bfly-reads.Asked,
-  kf-bfly-reads.Learnt,
-) (kf-work-at t) kf-work.Post kf-work-Inv-loop kf-work-μ-loop
-kf-work-loop-holds t c = (refl, refl, omega arith, within-zero _ _ _)
-
-kf-work-mul-kf-work : (t : ℕ) → kf-work-lts.Need-mul-kf-work (
-  kf-leaves-reads.Asked,
-  kf-leaves-reads.Learnt,
-  kf-fives-reads.Asked,
-  kf-fives-reads.Learnt,
-  kf-work-below t,
-  kf-work.Post,
-  kf-bfly-reads.Asked,
-  kf-bfly-reads.Learnt,
-) (kf-work-at t) kf-work.Post kf-work-Inv-loop kf-work-μ-loop
-kf-work-mul-kf-work t c = omega (arith, sub t (c .before .before .before .before .before .before .before .before .before .before .before .before .before .before .before) _ (c .loop-test .taken), c .before .loop .inv .0, c .before .loop .inv .1, c .before .before .before .before .before .before .before .before .before .before .before .before .before .before .before .pre .1, c .before .before .before .before .before .before .before .before .before .before .before .before .before .before .before .good .1 .1 .0)
-
-kf-work-mul-kf-work-2 : (t : ℕ) → kf-work-lts.Need-mul-kf-work-2 (
-  kf-leaves-reads.Asked,
-  kf-leaves-reads.Learnt,
-  kf-fives-reads.Asked,
-  kf-fives-reads.Learnt,
-  kf-work-below t,
-  kf-work.Post,
-  kf-bfly-reads.Asked,
-  kf-bfly-reads.Learnt,
-) (kf-work-at t) kf-work.Post kf-work-Inv-loop kf-work-μ-loop
-kf-work-mul-kf-work-2 t c = omega (arith, sub t (c .before .before .before .before .before .before .before .before .before .before .before .before .before .before .before) _ (c .loop-test .taken), c .before .loop .inv .0, c .before .loop .inv .1, c .before .before .before .before .before .before .before .before .before .before .before .before .before .before .before .pre .1, c .before .before .before .before .before .before .before .before .before .before .before .before .before .before .before .good .1 .1 .0)
-
-kf-work-sub-kf-work : (t : ℕ) → kf-work-lts.Need-sub-kf-work (
-  kf-leaves-reads.Asked,
-  kf-leaves-reads.Learnt,
-  kf-fives-reads.Asked,
-  kf-fives-reads.Learnt,
-  kf-work-below t,
-  kf-work.Post,
-  kf-bfly-reads.Asked,
-  kf-bfly-reads.Learnt,
-) (kf-work-at t) kf-work.Post kf-work-Inv-loop kf-work-μ-loop
-kf-work-sub-kf-work t c = omega (arith, sub t (c .before .before .before .before .before .before .before .before .before .before .before .before .before .before .before) _ (c .loop-test .taken), c .before .loop .inv .0, c .before .loop .inv .1, c .before .before .before .before .before .before .before .before .before .before .before .before .before .before .before .pre .1, c .before .before .before .before .before .before .before .before .before .before .before .before .before .before .before .good .1 .1 .0)
-
-kf-work-part-kf-work-start : (t : ℕ) → kf-work-lts.Need-part-kf-work-start (
-  kf-leaves-reads.Asked,
-  kf-leaves-reads.Learnt,
-  kf-fives-reads.Asked,
-  kf-fives-reads.Learnt,
-  kf-work-below t,
-  kf-work.Post,
-  kf-bfly-reads.Asked,
-  kf-bfly-reads.Learnt,
-) (kf-work-at t) kf-work.Post kf-work-Inv-loop kf-work-μ-loop
-kf-work-part-kf-work-start t c = omega (arith, sub t (c .before .before .before .before .before .before .before .before .before .before .before .before .before .before .before) _ (c .loop-test .taken), c .before .loop .inv .0, c .before .loop .inv .1, c .before .before .before .before .before .before .before .before .before .before .before .before .before .before .before .pre .1, c .before .before .before .before .before .before .before .before .before .before .before .before .before .before .before .good .1 .1 .0)
-
-kf-work-part-kf-work-end : (t : ℕ) → kf-work-lts.Need-part-kf-work-end (
-  kf-leaves-reads.Asked,
-  kf-leaves-reads.Learnt,
-  kf-fives-reads.Asked,
-  kf-fives-reads.Learnt,
-  kf-work-below t,
-  kf-work.Post,
-  kf-bfly-reads.Asked,
-  kf-bfly-reads.Learnt,
-) (kf-work-at t) kf-work.Post kf-work-Inv-loop kf-work-μ-loop
-kf-work-part-kf-work-end t c = search needs
-
-kf-work-mul-kf-work-3 : (t : ℕ) → kf-work-lts.Need-mul-kf-work-3 (
-  kf-leaves-reads.Asked,
-  kf-leaves-reads.Learnt,
-  kf-fives-reads.Asked,
-  kf-fives-reads.Learnt,
-  kf-work-below t,
-  kf-work.Post,
-  kf-bfly-reads.Asked,
-  kf-bfly-reads.Learnt,
-) (kf-work-at t) kf-work.Post kf-work-Inv-loop kf-work-μ-loop
-kf-work-mul-kf-work-3 t c = omega (arith, sub t (c .before .before .before .before .before .before .before .before .before .before .before .before .before .before .before .before) _ (c .before .loop-test .taken), c .before .before .loop .inv .0, c .before .before .loop .inv .1, c .before .before .before .before .before .before .before .before .before .before .before .before .before .before .before .before .pre .1, c .before .before .before .before .before .before .before .before .before .before .before .before .before .before .before .before .good .1 .1 .0)
-
-kf-work-mul-kf-work-4 : (t : ℕ) → kf-work-lts.Need-mul-kf-work-4 (
-  kf-leaves-reads.Asked,
-  kf-leaves-reads.Learnt,
-  kf-fives-reads.Asked,
-  kf-fives-reads.Learnt,
-  kf-work-below t,
-  kf-work.Post,
-  kf-bfly-reads.Asked,
-  kf-bfly-reads.Learnt,
-) (kf-work-at t) kf-work.Post kf-work-Inv-loop kf-work-μ-loop
-kf-work-mul-kf-work-4 t c = omega (arith, sub t (c .before .before .before .before .before .before .before .before .before .before .before .before .before .before .before .before) _ (c .before .loop-test .taken), c .before .before .loop .inv .0, c .before .before .loop .inv .1, c .before .before .before .before .before .before .before .before .before .before .before .before .before .before .before .before .pre .1, c .before .before .before .before .before .before .before .before .before .before .before .before .before .before .before .before .good .1 .1 .0)
-
-kf-work-sub-kf-work-2 : (t : ℕ) → kf-work-lts.Need-sub-kf-work-2 (
-  kf-leaves-reads.Asked,
-  kf-leaves-reads.Learnt,
-  kf-fives-reads.Asked,
-  kf-fives-reads.Learnt,
-  kf-work-below t,
-  kf-work.Post,
-  kf-bfly-reads.Asked,
-  kf-bfly-reads.Learnt,
-) (kf-work-at t) kf-work.Post kf-work-Inv-loop kf-work-μ-loop
-kf-work-sub-kf-work-2 t c = omega (arith, sub t (c .before .before .before .before .before .before .before .before .before .before .before .before .before .before .before .before) _ (c .before .loop-test .taken), c .before .before .loop .inv .0, c .before .before .loop .inv .1, c .before .before .before .before .before .before .before .before .before .before .before .before .before .before .before .before .pre .1, c .before .before .before .before .before .before .before .before .before .before .before .before .before .before .before .before .good .1 .1 .0)
-
-kf-work-part-kf-work-start-2 : (t : ℕ) → kf-work-lts.Need-part-kf-work-start-2 (
-  kf-leaves-reads.Asked,
-  kf-leaves-reads.Learnt,
-  kf-fives-reads.Asked,
-  kf-fives-reads.Learnt,
-  kf-work-below t,
-  kf-work.Post,
-  kf-bfly-reads.Asked,
-  kf-bfly-reads.Learnt,
-) (kf-work-at t) kf-work.Post kf-work-Inv-loop kf-work-μ-loop
-kf-work-part-kf-work-start-2 t c = omega (arith, sub t (c .before .before .before .before .before .before .before .before .before .before .before .before .before .before .before .before) _ (c .before .loop-test .taken), c .before .before .loop .inv .0, c .before .before .loop .inv .1, c .before .before .before .before .before .before .before .before .before .before .before .before .before .before .before .before .pre .1, c .before .before .before .before .before .before .before .before .before .before .before .before .before .before .before .before .good .1 .1 .0)
-
-kf-work-part-kf-work-end-2 : (t : ℕ) → kf-work-lts.Need-part-kf-work-end-2 (
-  kf-leaves-reads.Asked,
-  kf-leaves-reads.Learnt,
-  kf-fives-reads.Asked,
-  kf-fives-reads.Learnt,
-  kf-work-below t,
-  kf-work.Post,
-  kf-bfly-reads.Asked,
-  kf-bfly-reads.Learnt,
-) (kf-work-at t) kf-work.Post kf-work-Inv-loop kf-work-μ-loop
-kf-work-part-kf-work-end-2 t c = search needs
-
-kf-work-mul-kf-work-5 : (t : ℕ) → kf-work-lts.Need-mul-kf-work-5 (
-  kf-leaves-reads.Asked,
-  kf-leaves-reads.Learnt,
-  kf-fives-reads.Asked,
-  kf-fives-reads.Learnt,
-  kf-work-below t,
-  kf-work.Post,
-  kf-bfly-reads.Asked,
-  kf-bfly-reads.Learnt,
-) (kf-work-at t) kf-work.Post kf-work-Inv-loop kf-work-μ-loop
-kf-work-mul-kf-work-5 t c = omega (arith, sub t (c .before .before .before .before .before .before .before .before .before .before .before .before .before .before .before .before .before) _ (c .before .before .loop-test .taken), c .before .before .before .loop .inv .0, c .before .before .before .loop .inv .1, c .before .before .before .before .before .before .before .before .before .before .before .before .before .before .before .before .before .pre .1, c .before .before .before .before .before .before .before .before .before .before .before .before .before .before .before .before .before .good .1 .1 .0)
-
-kf-work-mul-kf-work-6 : (t : ℕ) → kf-work-lts.Need-mul-kf-work-6 (
-  kf-leaves-reads.Asked,
-  kf-leaves-reads.Learnt,
-  kf-fives-reads.Asked,
-  kf-fives-reads.Learnt,
-  kf-work-below t,
-  kf-work.Post,
-  kf-bfly-reads.Asked,
-  kf-bfly-reads.Learnt,
-) (kf-work-at t) kf-work.Post kf-work-Inv-loop kf-work-μ-loop
-kf-work-mul-kf-work-6 t c = omega (arith, sub t (c .before .before .before .before .before .before .before .before .before .before .before .before .before .before .before .before .before) _ (c .before .before .loop-test .taken), c .before .before .before .loop .inv .0, c .before .before .before .loop .inv .1, c .before .before .before .before .before .before .before .before .before .before .before .before .before .before .before .before .before .pre .1, c .before .before .before .before .before .before .before .before .before .before .before .before .before .before .before .before .before .good .1 .1 .0)
-
-kf-work-add-kf-work : (t : ℕ) → kf-work-lts.Need-add-kf-work (
-  kf-leaves-reads.Asked,
-  kf-leaves-reads.Learnt,
-  kf-fives-reads.Asked,
-  kf-fives-reads.Learnt,
-  kf-work-below t,
-  kf-work.Post,
-  kf-bfly-reads.Asked,
-  kf-bfly-reads.Learnt,
-) (kf-work-at t) kf-work.Post kf-work-Inv-loop kf-work-μ-loop
-kf-work-add-kf-work t c = omega (arith, sub t (c .before .before .before .before .before .before .before .before .before .before .before .before .before .before .before .before .before) _ (c .before .before .loop-test .taken), c .before .before .before .loop .inv .0, c .before .before .before .loop .inv .1, c .before .before .before .before .before .before .before .before .before .before .before .before .before .before .before .before .before .pre .1, c .before .before .before .before .before .before .before .before .before .before .before .before .before .before .before .before .before .good .1 .1 .0)
-
-kf-work-kf-work-requires : (t : ℕ) → kf-work-lts.Need-kf-work-requires (
-  kf-leaves-reads.Asked,
-  kf-leaves-reads.Learnt,
-  kf-fives-reads.Asked,
-  kf-fives-reads.Learnt,
-  kf-work-below t,
-  kf-work.Post,
-  kf-bfly-reads.Asked,
-  kf-bfly-reads.Learnt,
-) (kf-work-at t) kf-work.Post kf-work-Inv-loop kf-work-μ-loop
+kf-work-kf-work-requires : (t : ℕ) → kf-work-lts.Need-kf-work-requires (kf-work-claims t) (kf-work-at t) kf-work.Post kf-work-Inv-loop kf-work-μ-loop
 kf-work-kf-work-requires t c κs =
     let st = c .before .before .before .before .before .before .before .before .before .before .before .before .before .before .before .before .before in
     let lp = c .before .before .before .loop in
@@ -568,40 +165,7 @@ kf-work-kf-work-requires t c κs =
       ),
     )
 
-kf-work-add-q : (t : ℕ) → kf-work-lts.Need-add-q (
-  kf-leaves-reads.Asked,
-  kf-leaves-reads.Learnt,
-  kf-fives-reads.Asked,
-  kf-fives-reads.Learnt,
-  kf-work-below t,
-  kf-work.Post,
-  kf-bfly-reads.Asked,
-  kf-bfly-reads.Learnt,
-) (kf-work-at t) kf-work.Post kf-work-Inv-loop kf-work-μ-loop
-kf-work-add-q t c = omega (arith, c .before .before .before .before .before .before .before .loop-test .taken, here t (c .before .before .before .before .before .before .before .before .before .before .before .before .before .before .before .before .before .before .before .before .before .before))
-
-kf-work-loop-less : (t : ℕ) → kf-work-lts.Need-loop-less (
-  kf-leaves-reads.Asked,
-  kf-leaves-reads.Learnt,
-  kf-fives-reads.Asked,
-  kf-fives-reads.Learnt,
-  kf-work-below t,
-  kf-work.Post,
-  kf-bfly-reads.Asked,
-  kf-bfly-reads.Learnt,
-) (kf-work-at t) kf-work.Post kf-work-Inv-loop kf-work-μ-loop
-kf-work-loop-less t c = omega (arith, c .before .before .before .before .before .before .before .loop-test .taken)
-
-kf-work-loop-again : (t : ℕ) → kf-work-lts.Need-loop-again (
-  kf-leaves-reads.Asked,
-  kf-leaves-reads.Learnt,
-  kf-fives-reads.Asked,
-  kf-fives-reads.Learnt,
-  kf-work-below t,
-  kf-work.Post,
-  kf-bfly-reads.Asked,
-  kf-bfly-reads.Learnt,
-) (kf-work-at t) kf-work.Post kf-work-Inv-loop kf-work-μ-loop
+kf-work-loop-again : (t : ℕ) → kf-work-lts.Need-loop-again (kf-work-claims t) (kf-work-at t) kf-work.Post kf-work-Inv-loop kf-work-μ-loop
 kf-work-loop-again t c =
     let st = c .before .before .before .before .before .before .before .before .before .before .before .before .before .before .before .before .before .before .before .before .before .before in
     let a = st .args in
@@ -615,16 +179,7 @@ kf-work-loop-again t c =
           (sub-is _ _ (at (a .x .now) (a .y .now)) (a .inverse) (rest-of (ps t st)) _ _ _ _ (sym (first t st .inner)) (lent-on t st) _ _ (c .before .before .before .before .kf-work .ensures)),
     )
 
-kf-work-kf-bfly-requires : (t : ℕ) → kf-work-lts.Need-kf-bfly-requires (
-  kf-leaves-reads.Asked,
-  kf-leaves-reads.Learnt,
-  kf-fives-reads.Asked,
-  kf-fives-reads.Learnt,
-  kf-work-below t,
-  kf-work.Post,
-  kf-bfly-reads.Asked,
-  kf-bfly-reads.Learnt,
-) (kf-work-at t) kf-work.Post kf-work-Inv-loop kf-work-μ-loop
+kf-work-kf-bfly-requires : (t : ℕ) → kf-work-lts.Need-kf-bfly-requires (kf-work-claims t) (kf-work-at t) kf-work.Post kf-work-Inv-loop kf-work-μ-loop
 kf-work-kf-bfly-requires t c κs =
     let st = c .before .before .before .before .before .before .before .before .before .before .before .before .before .before .before .before .before in
     let lp = c .before .before .before .loop in
@@ -632,100 +187,65 @@ kf-work-kf-bfly-requires t c κs =
     let block : inner t st * radix t st ≡ span (ps t st) = mul-comm (inner t st) (radix t st) ∙ whole _ _ _ _ (first t st) in
     (h .0, h .1, h .2, omega (arith, block, st .pre .1 .6), omega (arith, block, st .pre .1 .7), omega (arith, block, st .pre .1 .8, lp .inv .0), omega (arith, block, st .pre .1 .9, lp .inv .1))
 
-kf-work-same-length-3 : (t : ℕ) → kf-work-lts.Need-same-length-3 (
-  kf-leaves-reads.Asked,
-  kf-leaves-reads.Learnt,
-  kf-fives-reads.Asked,
-  kf-fives-reads.Learnt,
-  kf-work-below t,
-  kf-work.Post,
-  kf-bfly-reads.Asked,
-  kf-bfly-reads.Learnt,
-) (kf-work-at t) kf-work.Post kf-work-Inv-loop kf-work-μ-loop
-kf-work-same-length-3 t c = c .before .before .before .before .kf-bfly .kept .0 ∙ c .before .before .before .before .before .before .before .before .loop .inv .0
-
-kf-work-same-length-4 : (t : ℕ) → kf-work-lts.Need-same-length-4 (
-  kf-leaves-reads.Asked,
-  kf-leaves-reads.Learnt,
-  kf-fives-reads.Asked,
-  kf-fives-reads.Learnt,
-  kf-work-below t,
-  kf-work.Post,
-  kf-bfly-reads.Asked,
-  kf-bfly-reads.Learnt,
-) (kf-work-at t) kf-work.Post kf-work-Inv-loop kf-work-μ-loop
-kf-work-same-length-4 t c = c .before .before .before .before .kf-bfly .kept .1 .0 ∙ c .before .before .before .before .before .before .before .before .loop .inv .1
-
-kf-work-returns-2 : (t : ℕ) → kf-work-lts.Need-returns-2 (
-  kf-leaves-reads.Asked,
-  kf-leaves-reads.Learnt,
-  kf-fives-reads.Asked,
-  kf-fives-reads.Learnt,
-  kf-work-below t,
-  kf-work.Post,
-  kf-bfly-reads.Asked,
-  kf-bfly-reads.Learnt,
-) (kf-work-at t) kf-work.Post kf-work-Inv-loop kf-work-μ-loop
+kf-work-returns-2 : (t : ℕ) → kf-work-lts.Need-returns-2 (kf-work-claims t) (kf-work-at t) kf-work.Post kf-work-Inv-loop kf-work-μ-loop
 kf-work-returns-2 t c =
     let st = c .before .before .before .before .before .before .before .before .before .before .before .before .before .before .before .before .before .before .before .before .before .before in
     let lp = c .before .before .before .before .before .before .before .before .loop in
     let past : lp .q ≡ radix t st = omega (arith, c .before .before .before .before .before .before .before .loop-test .left, lp .inv .2) in
     staged t st _ _ (rw (past, whole _ _ _ _ (first t st)) at (lp .inv .3)) (c .before .before .before .before .kf-bfly .ensures)
 
-pub +kf-work-spec : {M : Type 1} → statement M
-+kf-work-spec = close μ-kf-work λ t. kf-work-lts.spec (
-  kf-leaves-reads.Asked,
-  kf-leaves-reads.Learnt,
-  kf-fives-reads.Asked,
-  kf-fives-reads.Learnt,
-  kf-work-below t,
-  kf-work.Post,
-  kf-bfly-reads.Asked,
-  kf-bfly-reads.Learnt,
-)
+-- the needs without a name, for any answer: a wrong one hides none of them
+safe : ((t : ℕ) → kf-work-lts.Need-returns (kf-work-claims t) (kf-work-at t) kf-work.Post kf-work-Inv-loop kf-work-μ-loop)
+    → ((t : ℕ) → kf-work-lts.Need-loop-again (kf-work-claims t) (kf-work-at t) kf-work.Post kf-work-Inv-loop kf-work-μ-loop)
+    → ((t : ℕ) → kf-work-lts.Need-returns-2 (kf-work-claims t) (kf-work-at t) kf-work.Post kf-work-Inv-loop kf-work-μ-loop)
+    → {M : Type 1} → statement M
+safe returns loop-again returns-2 = close μ-kf-work λ t. kf-work-lts.spec (kf-work-claims t)
     (kf-work-at t)
     kf-work.Post
     kf-work-Inv-loop
     kf-work-μ-loop
-    (kf-work-shared-slice-read-p t)
-    (kf-work-shared-slice-read-m t)
-    (kf-work-sub-k t)
-    (kf-work-mul-k t)
-    (kf-work-mul-ur t)
-    (kf-work-sub-ur t)
-    (kf-work-part-ur-start t)
-    (kf-work-part-ur-end t)
-    (kf-work-mul-ui t)
-    (kf-work-sub-ui t)
-    (kf-work-part-ui-start t)
-    (kf-work-part-ui-end t)
+    (λ c. omega (arith, here t (c .before .before .before .before .before .before .before .before)))
+    (λ c. omega (arith, here t (c .before .before .before .before .before .before .before .before .before)))
+    (λ c. omega (arith, here t (c .before .before .before .before .before .before .before .before .before)))
+    (λ c. omega (arith, here t (c .before .before .before .before .before .before .before .before .before), c .before .before .before .before .before .before .before .before .before .good .1 .1 .1 .1 .0))
+    (λ c. omega (arith, here t (c .before .before .before .before .before .before .before .before .before), c .before .before .before .before .before .before .before .before .before .good .1 .1 .1 .1 .0))
+    (λ c. omega (arith, here t (c .before .before .before .before .before .before .before .before .before), c .before .before .before .before .before .before .before .before .before .good .1 .1 .1 .1 .0))
+    (λ c. omega (arith, here t (c .before .before .before .before .before .before .before .before .before)))
+    (λ c. search needs)
+    (λ c. omega (arith, here t (c .before .before .before .before .before .before .before .before .before .before), c .before .before .before .before .before .before .before .before .before .before .good .1 .1 .1 .1 .0))
+    (λ c. omega (arith, here t (c .before .before .before .before .before .before .before .before .before .before), c .before .before .before .before .before .before .before .before .before .before .good .1 .1 .1 .1 .0))
+    (λ c. omega (arith, here t (c .before .before .before .before .before .before .before .before .before .before)))
+    (λ c. search needs)
     (kf-work-kf-leaves-requires t)
     (kf-work-kf-fives-requires t)
-    (kf-work-same-length t)
-    (kf-work-same-length-2 t)
-    (kf-work-returns t)
-    (kf-work-sub-rest t)
-    (kf-work-part-rest-start t)
-    (kf-work-part-rest-end t)
-    (kf-work-loop-holds t)
-    (kf-work-mul-kf-work t)
-    (kf-work-mul-kf-work-2 t)
-    (kf-work-sub-kf-work t)
-    (kf-work-part-kf-work-start t)
-    (kf-work-part-kf-work-end t)
-    (kf-work-mul-kf-work-3 t)
-    (kf-work-mul-kf-work-4 t)
-    (kf-work-sub-kf-work-2 t)
-    (kf-work-part-kf-work-start-2 t)
-    (kf-work-part-kf-work-end-2 t)
-    (kf-work-mul-kf-work-5 t)
-    (kf-work-mul-kf-work-6 t)
-    (kf-work-add-kf-work t)
+    (λ c. c .before .before .before .before .kf-fives .kept .0 ∙ c .before .before .before .before .before .before .before .before .before .before .before .kf-leaves .kept .0)
+    (λ c. c .before .before .before .before .kf-fives .kept .1 .0 ∙ c .before .before .before .before .before .before .before .before .before .before .before .kf-leaves .kept .1 .0)
+    (returns t)
+    (λ c. omega (arith, here t (c .before .before .before .before .before .before .before .before .before .before .before .before)))
+    (λ c. omega (arith, here t (c .before .before .before .before .before .before .before .before .before .before .before .before)))
+    (λ c. search needs)
+    (λ c. (refl, refl, omega arith, within-zero _ _ _))
+    (λ c. omega (arith, sub t (c .before .before .before .before .before .before .before .before .before .before .before .before .before .before .before) _ (c .loop-test .taken), c .before .loop .inv .0, c .before .loop .inv .1, c .before .before .before .before .before .before .before .before .before .before .before .before .before .before .before .pre .1, c .before .before .before .before .before .before .before .before .before .before .before .before .before .before .before .good .1 .1 .0))
+    (λ c. omega (arith, sub t (c .before .before .before .before .before .before .before .before .before .before .before .before .before .before .before) _ (c .loop-test .taken), c .before .loop .inv .0, c .before .loop .inv .1, c .before .before .before .before .before .before .before .before .before .before .before .before .before .before .before .pre .1, c .before .before .before .before .before .before .before .before .before .before .before .before .before .before .before .good .1 .1 .0))
+    (λ c. omega (arith, sub t (c .before .before .before .before .before .before .before .before .before .before .before .before .before .before .before) _ (c .loop-test .taken), c .before .loop .inv .0, c .before .loop .inv .1, c .before .before .before .before .before .before .before .before .before .before .before .before .before .before .before .pre .1, c .before .before .before .before .before .before .before .before .before .before .before .before .before .before .before .good .1 .1 .0))
+    (λ c. omega (arith, sub t (c .before .before .before .before .before .before .before .before .before .before .before .before .before .before .before) _ (c .loop-test .taken), c .before .loop .inv .0, c .before .loop .inv .1, c .before .before .before .before .before .before .before .before .before .before .before .before .before .before .before .pre .1, c .before .before .before .before .before .before .before .before .before .before .before .before .before .before .before .good .1 .1 .0))
+    (λ c. search needs)
+    (λ c. omega (arith, sub t (c .before .before .before .before .before .before .before .before .before .before .before .before .before .before .before .before) _ (c .before .loop-test .taken), c .before .before .loop .inv .0, c .before .before .loop .inv .1, c .before .before .before .before .before .before .before .before .before .before .before .before .before .before .before .before .pre .1, c .before .before .before .before .before .before .before .before .before .before .before .before .before .before .before .before .good .1 .1 .0))
+    (λ c. omega (arith, sub t (c .before .before .before .before .before .before .before .before .before .before .before .before .before .before .before .before) _ (c .before .loop-test .taken), c .before .before .loop .inv .0, c .before .before .loop .inv .1, c .before .before .before .before .before .before .before .before .before .before .before .before .before .before .before .before .pre .1, c .before .before .before .before .before .before .before .before .before .before .before .before .before .before .before .before .good .1 .1 .0))
+    (λ c. omega (arith, sub t (c .before .before .before .before .before .before .before .before .before .before .before .before .before .before .before .before) _ (c .before .loop-test .taken), c .before .before .loop .inv .0, c .before .before .loop .inv .1, c .before .before .before .before .before .before .before .before .before .before .before .before .before .before .before .before .pre .1, c .before .before .before .before .before .before .before .before .before .before .before .before .before .before .before .before .good .1 .1 .0))
+    (λ c. omega (arith, sub t (c .before .before .before .before .before .before .before .before .before .before .before .before .before .before .before .before) _ (c .before .loop-test .taken), c .before .before .loop .inv .0, c .before .before .loop .inv .1, c .before .before .before .before .before .before .before .before .before .before .before .before .before .before .before .before .pre .1, c .before .before .before .before .before .before .before .before .before .before .before .before .before .before .before .before .good .1 .1 .0))
+    (λ c. search needs)
+    (λ c. omega (arith, sub t (c .before .before .before .before .before .before .before .before .before .before .before .before .before .before .before .before .before) _ (c .before .before .loop-test .taken), c .before .before .before .loop .inv .0, c .before .before .before .loop .inv .1, c .before .before .before .before .before .before .before .before .before .before .before .before .before .before .before .before .before .pre .1, c .before .before .before .before .before .before .before .before .before .before .before .before .before .before .before .before .before .good .1 .1 .0))
+    (λ c. omega (arith, sub t (c .before .before .before .before .before .before .before .before .before .before .before .before .before .before .before .before .before) _ (c .before .before .loop-test .taken), c .before .before .before .loop .inv .0, c .before .before .before .loop .inv .1, c .before .before .before .before .before .before .before .before .before .before .before .before .before .before .before .before .before .pre .1, c .before .before .before .before .before .before .before .before .before .before .before .before .before .before .before .before .before .good .1 .1 .0))
+    (λ c. omega (arith, sub t (c .before .before .before .before .before .before .before .before .before .before .before .before .before .before .before .before .before) _ (c .before .before .loop-test .taken), c .before .before .before .loop .inv .0, c .before .before .before .loop .inv .1, c .before .before .before .before .before .before .before .before .before .before .before .before .before .before .before .before .before .pre .1, c .before .before .before .before .before .before .before .before .before .before .before .before .before .before .before .before .before .good .1 .1 .0))
     (kf-work-kf-work-requires t)
-    (kf-work-add-q t)
-    (kf-work-loop-less t)
-    (kf-work-loop-again t)
+    (λ c. omega (arith, c .before .before .before .before .before .before .before .loop-test .taken, here t (c .before .before .before .before .before .before .before .before .before .before .before .before .before .before .before .before .before .before .before .before .before .before)))
+    (λ c. omega (arith, c .before .before .before .before .before .before .before .loop-test .taken))
+    (loop-again t)
     (kf-work-kf-bfly-requires t)
-    (kf-work-same-length-3 t)
-    (kf-work-same-length-4 t)
-    (kf-work-returns-2 t)
+    (λ c. c .before .before .before .before .kf-bfly .kept .0 ∙ c .before .before .before .before .before .before .before .before .loop .inv .0)
+    (λ c. c .before .before .before .before .kf-bfly .kept .1 .0 ∙ c .before .before .before .before .before .before .before .before .loop .inv .1)
+    (returns-2 t)
+
+pub +kf-work-spec : {M : Type 1} → statement M
++kf-work-spec = safe kf-work-returns kf-work-loop-again kf-work-returns-2
