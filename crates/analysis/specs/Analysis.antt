@@ -15,6 +15,7 @@ use Rattle.analysis_lines.specs.Lines.{timeBuffer, linesOf}
 use Rattle.analysis.specs.declared.Channel.{Channel}
 use Rattle.analysis.specs.declared.Cleared.{Cleared}
 use Rattle.analysis.specs.declared.Framed.{Framed}
+use Rattle.analysis.specs.declared.Told.{Told}
 
 -- ---- THE DEFINITION, refusals aside
 -- `apply_energy_estimation`
@@ -102,3 +103,7 @@ lent x l e = record { input = x; lines = l; energies = e }
 -- a call's return and the lent slices at its end, as the definition has them
 abbrev pub outcome : Framed → List Float → List Float → Given × Channel
 outcome r l e = (record { number = r .number; flag = r .flag; lines = l; energies = e }, r .channel)
+
+-- the same of a channel that stays where it is: its configuration c, and its samples at the call's end
+abbrev pub outcomeAt : ℕ → Told → List ℤ → List Float → List Float → Given × Channel
+outcomeAt c r s l e = (record { number = r .number; flag = r .flag; lines = l; energies = e }, channelOf c s)

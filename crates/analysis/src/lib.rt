@@ -5,7 +5,7 @@ ghost use mathlib.Core.Path.{_≡_};
 ghost use lib.Dec.{T};
 ghost use lib.ListN.{length};
 ghost use Rattle.config.specs.Config.{valid, nf, nb};
-ghost use Rattle.analysis.specs.Analysis.{energiesOf, flagOf, keptOf, channelOf, held, silent, cleared, number, accepted, frames, lent, outcome};
+ghost use Rattle.analysis.specs.Analysis.{energiesOf, flagOf, channelOf, held, silent, cleared, number, accepted, frames, lent, outcome, outcomeAt};
 
 // What a stream keeps between frames: the last samples of the frame before, and zeros at the places that its configuration has no use for.
 #[repr(C)]
@@ -25,6 +25,13 @@ pub struct Framed {
     pub number: u8,
     pub flag: bool,
     pub channel: Channel,
+}
+
+// What a call tells beside its channel.
+#[repr(C)]
+pub struct Told {
+    pub number: u8,
+    pub flag: bool,
 }
 
 impl Channel {
@@ -71,13 +78,25 @@ fn is_near_nyquist(c: u8, energies: &[f32]) -> bool
     analysis_steps::exceeds(energies, energies.len() - config::upper(c))
 }
 
+// The energies of the lines. Where there are as many bands as lines each has one, and the edges, whose table costs more than the energies, are not needed.
+fn apply_energy_estimation(c: u8, lines: &[f32], energies: &mut [f32])
+    requires { ⌜ T (valid c) × (length (now lines) ≡ nf c) × (length (now energies) ≡ nb c) ⌝ }
+    ensures { λ _. ⌜ now (energies .exit) ≡ energiesOf c (now (lines .entry)) ⌝ }
+{
+    if energies.len() == lines.len() {
+        analysis_steps::ones(lines, energies);
+        return;
+    }
+    let edges = config::edges(c);
+    analysis_steps::apply_energy_estimation(lines, &edges, energies);
+}
+
 // Inner. The energies of the lines, and the flag.
 pub fn measured(c: u8, lines: &[f32], energies: &mut [f32]) -> bool
     requires { ⌜ T (valid c) × (length (now lines) ≡ nf c) × (length (now energies) ≡ nb c) ⌝ }
     ensures { λ r. ⌜ (now (energies .exit) ≡ energiesOf c (now (lines .entry))) × (r ≡ flagOf c (energiesOf c (now (lines .entry)))) ⌝ }
 {
-    let edges = config::edges(c);
-    analysis_steps::apply_energy_estimation(lines, &edges, energies);
+    apply_energy_estimation(c, lines, energies);
     is_near_nyquist(c, energies)
 }
 
@@ -101,46 +120,76 @@ fn number(c: u8, input: &[i16], lines: &[f32], energies: &[f32]) -> u8
     0
 }
 
+// The step of a call that is not refused. The samples, of 300 places, come as a slice: the checker follows no part of an array behind a reference.
+fn step_slice(
+    c: u8,
+    samples: &mut [i16],
+    input: &[i16],
+    lines: &mut [f32],
+    energies: &mut [f32],
+) -> Told
+    requires { ⌜ T (valid c) × (length (now input) ≡ nf c) × (length (now lines) ≡ nf c) × (length (now energies) ≡ nb c) × (length (now samples) ≡ 300) ⌝ }
+    ensures { λ r. ⌜ accepted c (held (channelOf c (now (samples .entry)))) (now (input .entry)) ≡ outcomeAt c r (now (samples .exit)) (now (lines .exit)) (now (energies .exit)) ⌝ }
+{
+    let z = config::z(c);
+    let keep = input.len() - z;
+    analysis_lines::lines_of(c, &samples[..keep], input, lines);
+    let flag = measured(c, lines, energies);
+    analysis_steps::keep(input, z, samples);
+    Told { number: 0, flag }
+}
+
+// The same on the samples where the channel has them.
+fn step(
+    c: u8,
+    samples: &mut [i16; 300],
+    input: &[i16],
+    lines: &mut [f32],
+    energies: &mut [f32],
+) -> Told
+    requires { ⌜ T (valid c) × (length (now input) ≡ nf c) × (length (now lines) ≡ nf c) × (length (now energies) ≡ nb c) ⌝ }
+    ensures { λ r. ⌜ accepted c (held (channelOf c (now (samples .entry)))) (now (input .entry)) ≡ outcomeAt c r (now (samples .exit)) (now (lines .exit)) (now (energies .exit)) ⌝ }
+{
+    step_slice(c, samples, input, lines, energies)
+}
+
+// Entry. A frame of samples to its lines, its energies and the flag, on a channel that stays where it is: its configuration, and its samples, lent.
+// A refusal writes nothing.
+pub fn frame_at(
+    config: u8,
+    samples: &mut [i16; 300],
+    input: &[i16],
+    lines: &mut [f32],
+    energies: &mut [f32],
+) -> Told
+    ensures { λ r. ⌜ frames (channelOf config (now (samples .entry))) (lent (now (input .entry)) (now (lines .entry)) (now (energies .entry)))
+        ≡ outcomeAt config r (now (samples .exit)) (now (lines .exit)) (now (energies .exit)) ⌝ }
+{
+    let refusal = number(config, input, lines, energies);
+    if refusal != 0 {
+        return Told {
+            number: refusal,
+            flag: false,
+        };
+    }
+    step(config, samples, input, lines, energies)
+}
+
 impl Channel {
-    // A call's result has a known length, which a field of a struct has not.
-    fn samples(self) -> [i16; 300]
-        ensures { λ r. ⌜ r ≡ self .samples ⌝ }
-    {
-        self.samples
-    }
-
-    // A call that is not refused.
-    fn accepted(self, input: &[i16], lines: &mut [f32], energies: &mut [f32]) -> Framed
-        requires { ⌜ T (valid (self .config)) × (length (now input) ≡ nf (self .config)) × (length (now lines) ≡ nf (self .config)) × (length (now energies) ≡ nb (self .config)) ⌝ }
-        ensures { λ r. ⌜ accepted (self .config) (held self) (now (input .entry)) ≡ outcome r (now (lines .exit)) (now (energies .exit)) ⌝ }
-    {
-        let config = self.config;
-        let mut samples = self.samples();
-        let z = config::z(config);
-        let keep = input.len() - z;
-        analysis_lines::lines_of(config, &samples[..keep], input, lines);
-        let flag = measured(config, lines, energies);
-        analysis_steps::keep(input, z, &mut samples);
-        Framed {
-            number: 0,
-            flag,
-            channel: Channel::new(config, samples),
-        }
-    }
-
-    // Entry. A frame of samples to its lines, its energies and the flag, or a refusal that writes nothing and hands the channel back.
+    // Entry. The same with the channel handed in and back.
     pub fn frame(self, input: &[i16], lines: &mut [f32], energies: &mut [f32]) -> Framed
         ensures { λ r. ⌜ frames self (lent (now (input .entry)) (now (lines .entry)) (now (energies .entry)))
             ≡ outcome r (now (lines .exit)) (now (energies .exit)) ⌝ }
     {
-        let refusal = number(self.config, input, lines, energies);
-        if refusal != 0 {
-            return Framed {
-                number: refusal,
-                flag: false,
-                channel: self,
-            };
-        }
-        self.accepted(input, lines, energies)
+        let config = self.config;
+        let mut framed = Framed {
+            number: 0,
+            flag: false,
+            channel: self,
+        };
+        let told = frame_at(config, &mut framed.channel.samples, input, lines, energies);
+        framed.number = told.number;
+        framed.flag = told.flag;
+        framed
     }
 }

@@ -305,6 +305,18 @@ pub fn apply_energy_estimation(lines: &[f32], edges: &[usize], out: &mut [f32])
     }
 }
 
+// Inner. The energies of as many bands as there are lines, of one line each.
+pub fn ones(lines: &[f32], out: &mut [f32])
+    requires { ⌜ length (now lines) ≡ length (now out) ⌝ }
+    ensures { λ _. ⌜ now (out .exit) ≡ tab (length (now (out .entry))) (λ b. energy (take 1 (drop b (now (lines .entry))))) ⌝ }
+{
+    let mut b = 0;
+    while b < out.len() {
+        out[b] = one(lines, b);
+        b += 1;
+    }
+}
+
 // The sum of energies, from 0.0 in their order.
 fn total(es: &[f32]) -> f32
     ensures { λ r. ⌜ r ≡ total (now (es .entry)) ⌝ }
