@@ -8,6 +8,7 @@ use lib.Ieee.{Float}
 use Rattle.laws.specs.Lists.{tab, first}
 use Rattle.laws.specs.Passes.{passes6}
 use Rattle.config.specs.Config.{valid, nf, z, ne}
+use Rattle.config.specs.declared.Verdict.{Verdict}
 use Rattle.config.specs.Refusals as refusals
 use Rattle.laws.specs.Numbers.{zero32}
 use Rattle.synthesis_samples.specs.Samples.{samplesOf, memoryOf}
@@ -86,3 +87,7 @@ lent x s = record { lines = x; samples = s }
 -- a call's return and the samples' slice at its end, as the definition has them
 abbrev pub outcome : Framed → List Float → Given × Channel
 outcome r s = (record { number = r .number; index = r .index; samples = s }, r .channel)
+
+-- the same of a channel that stays where it is: its configuration c, and its memory at the call's end
+abbrev pub outcomeAt : ℕ → Verdict → List Float → List Float → Given × Channel
+outcomeAt c r m s = (record { number = r .number; index = r .index; samples = s }, channelOf c m)

@@ -4,7 +4,7 @@
 ghost use mathlib.Core.Path.{_≡_};
 ghost use lib.ListN.{length, replicate};
 ghost use Rattle.laws.specs.Numbers.{zero32};
-ghost use Rattle.synthesis.specs.Synthesis.{keptOf, channelOf, held, silent, cleared, number, index, frames, lent, outcome};
+ghost use Rattle.synthesis.specs.Synthesis.{keptOf, channelOf, held, silent, cleared, number, index, frames, lent, outcome, outcomeAt};
 ghost use Rattle.synthesis_samples.specs.Samples.{samplesOf};
 use config::Verdict;
 
@@ -123,21 +123,36 @@ fn step(config: u8, lines: &[f32], memory: &mut [f32; 300], samples: &mut [f32])
     step_slice(config, lines, memory, samples);
 }
 
+// Entry. A frame of lines to its samples, on a channel that stays where it is: its configuration, and its memory, lent. A refusal writes nothing.
+pub fn frame_at(
+    config: u8,
+    memory: &mut [f32; 300],
+    lines: &[f32],
+    samples: &mut [f32],
+) -> Verdict
+    ensures { λ r. ⌜ frames (channelOf config (now (memory .entry))) (lent (now (lines .entry)) (now (samples .entry))) ≡ outcomeAt config r (now (memory .exit)) (now (samples .exit)) ⌝ }
+{
+    let v = refusal(config, lines, samples);
+    if v.number == 0 {
+        step(config, lines, memory, samples);
+    }
+    v
+}
+
 impl Channel {
-    // Entry. A frame of lines to its samples, or a refusal that writes nothing and hands the channel back.
+    // Entry. The same with the channel handed in and back.
     pub fn frame(self, lines: &[f32], samples: &mut [f32]) -> Framed
         ensures { λ r. ⌜ frames self (lent (now (lines .entry)) (now (samples .entry))) ≡ outcome r (now (samples .exit)) ⌝ }
     {
         let config = self.config;
-        let v = refusal(config, lines, samples);
         let mut framed = Framed {
-            number: v.number,
-            index: v.index,
+            number: 0,
+            index: 0,
             channel: self,
         };
-        if v.number == 0 {
-            step(config, lines, &mut framed.channel.memory, samples);
-        }
+        let v = frame_at(config, &mut framed.channel.memory, lines, samples);
+        framed.number = v.number;
+        framed.index = v.index;
         framed
     }
 }
