@@ -63,6 +63,20 @@ pub extern "C" fn loamscarf_analysis_frame(
     channel.frame(input, lines, energies)
 }
 
+// Entry. The same on a channel that stays in the caller's memory, of which it gets the configuration and the samples: nothing of it is copied.
+#[no_mangle]
+pub extern "C" fn loamscarf_analysis_frame_at(
+    config: u8,
+    samples: &mut [i16; 300],
+    input: &[i16],
+    lines: &mut [f32],
+    energies: &mut [f32],
+) -> analysis::Told
+    ensures { λ r. ⌜ an.frames (an.channelOf config (now (samples .entry))) (an.lent (now (input .entry)) (now (lines .entry)) (now (energies .entry))) ≡ an.outcomeAt config r (now (samples .exit)) (now (lines .exit)) (now (energies .exit)) ⌝ }
+{
+    analysis::frame_at(config, samples, input, lines, energies)
+}
+
 // Entry. A fresh synthesis channel.
 #[no_mangle]
 pub extern "C" fn loamscarf_synthesis_clear(config: u8) -> synthesis::Cleared
@@ -81,6 +95,19 @@ pub extern "C" fn loamscarf_synthesis_frame(
     ensures { λ r. ⌜ sy.frames channel (sy.lent (now (lines .entry)) (now (samples .entry))) ≡ sy.outcome r (now (samples .exit)) ⌝ }
 {
     channel.frame(lines, samples)
+}
+
+// Entry. The same on a channel that stays in the caller's memory, of which it gets the configuration and the memory.
+#[no_mangle]
+pub extern "C" fn loamscarf_synthesis_frame_at(
+    config: u8,
+    memory: &mut [f32; 300],
+    lines: &[f32],
+    samples: &mut [f32],
+) -> Verdict
+    ensures { λ r. ⌜ sy.frames (sy.channelOf config (now (memory .entry))) (sy.lent (now (lines .entry)) (now (samples .entry))) ≡ sy.outcomeAt config r (now (memory .exit)) (now (samples .exit)) ⌝ }
+{
+    synthesis::frame_at(config, memory, lines, samples)
 }
 
 // Entry. The loudest band of some energies.

@@ -3,10 +3,12 @@ use mathlib.Core.Path.{_≡_, refl, sym, ap, _∙_}
 use base.Logic.{ent, emp, id⊢, sep, fst∗, via}
 use contract.Monad.{conj, conjL, conjR, conj-mono, fact, factI, fact-use}
 use borrow.Fn.World.{World, Pr}
+use Rattle.config.specs.declared.Verdict.{Verdict}
 use Rattle.kissfft.specs.Fft as kissfft
 use Rattle.dct_iv.specs.DctIv as dct
 use Rattle.analysis.specs.declared.Channel as analysisChannel
 use Rattle.analysis.specs.declared.Framed as analysisFramed
+use Rattle.analysis.specs.declared.Told as analysisTold
 use Rattle.analysis.specs.Analysis as analysis
 use Rattle.synthesis.specs.declared.Channel as synthesisChannel
 use Rattle.synthesis.specs.declared.Framed as synthesisFramed
@@ -50,6 +52,13 @@ analysis-framed o = record { number = o .0 .number; flag = o .0 .flag; channel =
 
 abbrev synthesis-framed : synthesis.Given × synthesisChannel.Channel → synthesisFramed.Framed
 synthesis-framed o = record { number = o .0 .number; index = o .0 .index; channel = o .1 }
+
+-- the same where the channel is lent: its samples or its memory stand among what is lent for writing
+abbrev analysis-told : analysis.Given × analysisChannel.Channel → analysisTold.Told
+analysis-told o = record { number = o .0 .number; flag = o .0 .flag }
+
+abbrev synthesis-told : synthesis.Given × synthesisChannel.Channel → Verdict
+synthesis-told o = record { number = o .0 .number; index = o .0 .index }
 
 -- an argument that is not lent for writing has nothing at exit: its place in an answer holds tt
 pub entries : (w : World) → Entries w
@@ -143,8 +152,10 @@ entries w =
       zeros = (λ κs a. free w, λ κs a g x y. once w (λ l. (tt, (l, tt))));
       analysis-clear = (λ κs a. free w, λ κs a g x y. returns w x y refl);
       analysis-frame = (λ κs a. free w, λ κs a g x y. once′ w (λ (o : analysis.Given × analysisChannel.Channel). (analysis-framed o, (tt, (tt, (o .0 .lines, (o .0 .energies, tt)))))));
+      analysis-frame-at = (λ κs a. free w, λ κs a g x y. once′ w (λ (o : analysis.Given × analysisChannel.Channel). (analysis-told o, (tt, (o .1 .samples, (tt, (o .0 .lines, (o .0 .energies, tt))))))));
       synthesis-clear = (λ κs a. free w, λ κs a g x y. returns w x y refl);
       synthesis-frame = (λ κs a. free w, λ κs a g x y. once′ w (λ (o : synthesis.Given × synthesisChannel.Channel). (synthesis-framed o, (tt, (tt, (o .0 .samples, tt))))));
+      synthesis-frame-at = (λ κs a. free w, λ κs a g x y. once′ w (λ (o : synthesis.Given × synthesisChannel.Channel). (synthesis-told o, (tt, (o .1 .memory, (tt, (o .0 .samples, tt)))))));
       loudest-band = (λ κs a. free w, λ κs a g x y. returns w x y refl);
       read-header = (λ κs a. free w, λ κs a g x y. returns w x y refl);
       header-number = (λ κs a. free w, λ κs a g x y. returns w x y refl);
@@ -176,8 +187,10 @@ entries w =
       c-dct-iv = (λ κs a. free w, λ κs a g x y. once w (λ (o : dct.Answer). (o .judged, (tt, (o .held, tt)))));
       c-analysis-clear = (λ κs a. free w, λ κs a g x y. returns w x y refl);
       c-analysis-frame = (λ κs a. free w, λ κs a g x y. once′ w (λ (o : analysis.Given × analysisChannel.Channel). (analysis-framed o, (tt, (tt, (o .0 .lines, (o .0 .energies, tt)))))));
+      c-analysis-frame-at = (λ κs a. free w, λ κs a g x y. once′ w (λ (o : analysis.Given × analysisChannel.Channel). (analysis-told o, (tt, (o .1 .samples, (tt, (o .0 .lines, (o .0 .energies, tt))))))));
       c-synthesis-clear = (λ κs a. free w, λ κs a g x y. returns w x y refl);
       c-synthesis-frame = (λ κs a. free w, λ κs a g x y. once′ w (λ (o : synthesis.Given × synthesisChannel.Channel). (synthesis-framed o, (tt, (tt, (o .0 .samples, tt))))));
+      c-synthesis-frame-at = (λ κs a. free w, λ κs a g x y. once′ w (λ (o : synthesis.Given × synthesisChannel.Channel). (synthesis-told o, (tt, (o .1 .memory, (tt, (o .0 .samples, tt)))))));
       c-loudest-band = (λ κs a. free w, λ κs a g x y. returns w x y refl);
     }
 
@@ -188,8 +201,10 @@ cited w =
       dct-iv = λ κs a g x. refl;
       analysis-clear = λ κs a g x. refl;
       analysis-frame = λ κs a g x. refl;
+      analysis-frame-at = λ κs a g x. refl;
       synthesis-clear = λ κs a g x. refl;
       synthesis-frame = λ κs a g x. refl;
+      synthesis-frame-at = λ κs a g x. refl;
       loudest-band = λ κs a g x. refl;
       opened = λ κs a g x. refl;
       step = λ κs a g x. refl;

@@ -103,8 +103,10 @@ use Rattle.analysis_steps.proofs.scale
 use Rattle.synthesis_steps.proofs.zeros
 use Rattle.analysis.proofs.clear as analysis-clear
 use Rattle.analysis.proofs.Channel.frame as analysis-frame
+use Rattle.analysis.proofs.frame_at as analysis-frame-at
 use Rattle.synthesis.proofs.clear as synthesis-clear
 use Rattle.synthesis.proofs.Channel.frame as synthesis-frame
+use Rattle.synthesis.proofs.frame_at as synthesis-frame-at
 use Rattle.loudest.proofs.loudest_band
 use Rattle.frame_file.proofs.read_header
 use Rattle.frame_file.proofs.header_number
@@ -136,8 +138,10 @@ use Rattle.c_api.proofs.loamscarf_fft
 use Rattle.c_api.proofs.loamscarf_dct_iv
 use Rattle.c_api.proofs.loamscarf_analysis_clear
 use Rattle.c_api.proofs.loamscarf_analysis_frame
+use Rattle.c_api.proofs.loamscarf_analysis_frame_at
 use Rattle.c_api.proofs.loamscarf_synthesis_clear
 use Rattle.c_api.proofs.loamscarf_synthesis_frame
+use Rattle.c_api.proofs.loamscarf_synthesis_frame_at
 use Rattle.c_api.proofs.loamscarf_loudest_band
 use Rattle.kissfft.specs.Fft as kissfft
 use Rattle.dct_iv.specs.DctIv as dct
@@ -280,9 +284,11 @@ pub record Entries (w : World) : Type 1 where
   -- analysis
   pub analysis-clear : Entry w analysis-clear.ended analysis-clear.clauses
   pub analysis-frame : Entry w analysis-frame.ended analysis-frame.clauses
+  pub analysis-frame-at : Entry w analysis-frame-at.ended analysis-frame-at.clauses
   -- synthesis
   pub synthesis-clear : Entry w synthesis-clear.ended synthesis-clear.clauses
   pub synthesis-frame : Entry w synthesis-frame.ended synthesis-frame.clauses
+  pub synthesis-frame-at : Entry w synthesis-frame-at.ended synthesis-frame-at.clauses
   -- loudest
   pub loudest-band : Entry w loudest_band.ended loudest_band.clauses
   -- frame_file
@@ -322,8 +328,10 @@ pub record Entries (w : World) : Type 1 where
   pub c-dct-iv : Entry w loamscarf_dct_iv.ended loamscarf_dct_iv.clauses
   pub c-analysis-clear : Entry w loamscarf_analysis_clear.ended loamscarf_analysis_clear.clauses
   pub c-analysis-frame : Entry w loamscarf_analysis_frame.ended loamscarf_analysis_frame.clauses
+  pub c-analysis-frame-at : Entry w loamscarf_analysis_frame_at.ended loamscarf_analysis_frame_at.clauses
   pub c-synthesis-clear : Entry w loamscarf_synthesis_clear.ended loamscarf_synthesis_clear.clauses
   pub c-synthesis-frame : Entry w loamscarf_synthesis_frame.ended loamscarf_synthesis_frame.clauses
+  pub c-synthesis-frame-at : Entry w loamscarf_synthesis_frame_at.ended loamscarf_synthesis_frame_at.clauses
   pub c-loudest-band : Entry w loamscarf_loudest_band.ended loamscarf_loudest_band.clauses
 
 -- The clauses that the demands and the listing's theorem stand on. a .0 is the first argument of a call, a .1 .0 the second, and so on; x .0 is the return, and
@@ -334,14 +342,20 @@ pub record Cited (w : World) : Type 2 where
       (λ κs a x. kissfft.left (x .0) (x .1 .1 .1 .1 .1 .0) (x .1 .1 .1 .1 .1 .1 .0) ≡ kissfft.answer (a .0) (a .1 .0) (now (a .1 .1 .0)) (now (a .1 .1 .1 .0)) (now (a .1 .1 .1 .1 .0)) (now (a .1 .1 .1 .1 .1 .0)))
   -- dct_iv: `dct_iv` gives `answer`
   pub dct-iv : Says w dct_iv.ended dct_iv.clauses (λ κs a x. dct.left (x .0) (x .1 .1 .0) ≡ dct.answer (a .0) (now (a .1 .0)))
-  -- analysis: `clear` gives `cleared`, `frame` gives `frames`
+  -- analysis: `clear` gives `cleared`, `frame` gives `frames`, and so does `frame_at`, on the channel that is lent
   pub analysis-clear : Says w analysis-clear.ended analysis-clear.clauses (λ κs a x. x .0 ≡ analysis.cleared (a .0))
   pub analysis-frame : Says w analysis-frame.ended analysis-frame.clauses
       (λ κs a x. analysis.frames (a .0) (analysis.lent (now (a .1 .0)) (now (a .1 .1 .0)) (now (a .1 .1 .1 .0))) ≡ analysis.outcome (x .0) (x .1 .1 .1 .0) (x .1 .1 .1 .1 .0))
+  pub analysis-frame-at : Says w analysis-frame-at.ended analysis-frame-at.clauses
+      (λ κs a x. analysis.frames (analysis.channelOf (a .0) (now (a .1 .0))) (analysis.lent (now (a .1 .1 .0)) (now (a .1 .1 .1 .0)) (now (a .1 .1 .1 .1 .0)))
+      ≡ analysis.outcomeAt (a .0) (x .0) (x .1 .1 .0) (x .1 .1 .1 .1 .0) (x .1 .1 .1 .1 .1 .0))
   -- synthesis, alike
   pub synthesis-clear : Says w synthesis-clear.ended synthesis-clear.clauses (λ κs a x. x .0 ≡ synthesis.cleared (a .0))
   pub synthesis-frame : Says w synthesis-frame.ended synthesis-frame.clauses
       (λ κs a x. synthesis.frames (a .0) (synthesis.lent (now (a .1 .0)) (now (a .1 .1 .0))) ≡ synthesis.outcome (x .0) (x .1 .1 .1 .0))
+  pub synthesis-frame-at : Says w synthesis-frame-at.ended synthesis-frame-at.clauses
+      (λ κs a x. synthesis.frames (synthesis.channelOf (a .0) (now (a .1 .0))) (synthesis.lent (now (a .1 .1 .0)) (now (a .1 .1 .1 .0)))
+      ≡ synthesis.outcomeAt (a .0) (x .0) (x .1 .1 .0) (x .1 .1 .1 .1 .0))
   -- loudest: `loudest_band` gives `heard`
   pub loudest-band : Says w loudest_band.ended loudest_band.clauses (λ κs a x. x .0 ≡ heard (now (a .0)))
   -- listing: `open` gives `opening`, `step` gives `step`
