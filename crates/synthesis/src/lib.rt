@@ -124,12 +124,7 @@ fn step(config: u8, lines: &[f32], memory: &mut [f32; 300], samples: &mut [f32])
 }
 
 // Entry. A frame of lines to its samples, on a channel that stays where it is: its configuration, and its memory, lent. A refusal writes nothing.
-pub fn frame_at(
-    config: u8,
-    memory: &mut [f32; 300],
-    lines: &[f32],
-    samples: &mut [f32],
-) -> Verdict
+pub fn frame_at(config: u8, memory: &mut [f32; 300], lines: &[f32], samples: &mut [f32]) -> Verdict
     ensures { λ r. ⌜ frames (channelOf config (now (memory .entry))) (lent (now (lines .entry)) (now (samples .entry))) ≡ outcomeAt config r (now (memory .exit)) (now (samples .exit)) ⌝ }
 {
     let v = refusal(config, lines, samples);

@@ -58,8 +58,9 @@ returns c =
     (made-kept n past x (st .pre .0) (length-tab (nf n - z n) (λ m. getD l m (pos 0))) (st .pre .1) q _ (c .before .before .before .before .before .before .before .before .before .before .before .before .before .z .ensures) (c .before .keep .ensures ∙ ap (λ (m : ℕ). drop q x ++ replicate (m - length (drop q x)) (pos 0)) (st .pre .4)))
     refl)
 
-pub step-slice-spec : {M : Type 1} → statement M
-step-slice-spec =
+-- the needs without a name, for any answer: a wrong one hides none of them
+safe : tie.Need-returns → {M : Type 1} → statement M
+safe returns =
     tie.close
     (tie.spec
     (λ c κs. search needs)
@@ -73,3 +74,6 @@ step-slice-spec =
     (λ c. search needs)
     (λ c. search needs)
     returns)
+
+pub step-slice-spec : {M : Type 1} → statement M
+step-slice-spec = safe returns
