@@ -44,7 +44,7 @@ leaf-done u x s o g g′ c read stored =
     ∙ ap (λ (v : ℕ → Complex). writes g 0 v 5) (seen 5 (λ q. x (o + q * s)) (beside5 u) (sees-five u) _ (λ z. read z .a ∷ read z .b ∷ read z .c ∷ read z .d ∷ read z .e ∷ []))
     ∙ writes-within g (innermost u x s o) 5
 
--- one more of the innermost stages below a stage of stride t: the q-th, on the parts from q 5 on
+-- one more of the innermost stages below a stage of stride t: the q-th, on the parts from place 5 q on
 pub leaf-more : (u x : ℕ → Complex) (s t o q : ℕ) (g₀ : ℕ → Complex) (re im ys zs : List Float) (c : Out5) → q * 5 ≤ length re → q * 5 ≤ length im
     → at re im ≡ within (q * 5) (blocks (innermost u x s) 5 t o) g₀ → c ≡ of5 (λ j. x (o + q * t + j * s))
     → at ys zs ≡ writes (at (midOf (q * 5) (length re - q * 5) re) (midOf (q * 5) (length im - q * 5) im)) 0 (beside5 u (col (c .a ∷ c .b ∷ c .c ∷ c .d ∷ c .e ∷ []))) 5
@@ -53,7 +53,7 @@ leaf-more u x s t o q g₀ re im ys zs c hr hi before read stored =
     call-done (innermost u x s) 5 t o q (omega arith) g₀ re im ys zs hr hi before (leaf-done u x s (o + q * t) _ _ c read stored)
 
 -- it is the transform by the plan that it is
-pub leaf-is : (u x : ℕ → Complex) (inverse : Bool) (s o k : ℕ) → k < 5 → innermost u x s o k ≡ packedWork u inverse x (5 ∷ 1 ∷ []) s o k
+leaf-is : (u x : ℕ → Complex) (inverse : Bool) (s o k : ℕ) → k < 5 → innermost u x s o k ≡ packedWork u inverse x (5 ∷ 1 ∷ []) s o k
 unfolding innermost packedWork packedColumn stage
 leaf-is u x inverse s o k l =
     let at-k : k ≡ k / 1 = sym (div-one k) in

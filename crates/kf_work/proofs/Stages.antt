@@ -20,7 +20,7 @@ use Rattle.kf_work.proofs.Plan.{Split, whole, inner-positive}
 abbrev pub blocks : (ℕ → ℕ → Complex) → ℕ → ℕ → ℕ → ℕ → Complex
 blocks w m s o k = w (o + k / m * s) (k % m)
 
-pub column-local : (u : ℕ → Complex) (inverse : Bool) (p m : ℕ) → 2 ≤ p → p ≤ 4 → Local p m (packedColumn u inverse p m)
+column-local : (u : ℕ → Complex) (inverse : Bool) (p m : ℕ) → 2 ≤ p → p ≤ 4 → Local p m (packedColumn u inverse p m)
 unfolding packedColumn
 column-local u inverse zero m l h = absurd (omega arith)
 column-local u inverse (suc zero) m l h = absurd (omega arith)

@@ -10,11 +10,9 @@ use denote.Ref.{now}
 use borrow.Author.Needs.{needs}
 use borrow.Fn.Kinds.{In}
 use borrow.Fn.PlainCycle.{Measures, is, falls, and}
-use Rattle.complex.specs.declared.Complex.{Complex}
 use Rattle.complex.specs.Complex.{at}
-use Rattle.butterflies.specs.Butterflies.{stage}
 use Rattle.kf_work.specs.Work.{within, span}
-use Rattle.kf_work.specs.Packed.{after, packedColumn, packedWork}
+use Rattle.kf_work.specs.Packed.{after, packedWork}
 use Rattle.kf_work.proofs.Plan.{Split, Taken, rest-of, plan-cons, taken, inner-positive, whole, table-nums, sub-nums}
 use Rattle.kf_work.proofs.Spread.{within-zero}
 use Rattle.kf_work.proofs.Stages.{blocks, staged, sub-is}
@@ -171,8 +169,8 @@ kf-work-returns-2 : (t : ℕ) → kf-work-lts.Need-returns-2 (kf-work-claims t) 
 kf-work-returns-2 t c =
     let st = c .before .before .before .before .before .before .before .before .before .before .before .before .before .before .before .before .before .before .before .before .before .before in
     let lp = c .before .before .before .before .before .before .before .before .loop in
-    let past : lp .q ≡ radix t st = omega (arith, c .before .before .before .before .before .before .before .loop-test .left, lp .inv .2) in
     let a = st .args in
+    let past : lp .q ≡ radix t st = omega (arith, c .before .before .before .before .before .before .before .loop-test .left, lp .inv .2) in
     staged (at (a .tr .now) (a .ti .now)) (at (a .x .now) (a .y .now)) (a .inverse) (ps t st) _ _ _ (a .fstride) (a .from) (first t st) (lower t st .low) _ _ _ (rw (past, whole _ _ _ _ (first t st)) at (lp .inv .3)) (c .before .before .before .before .kf-bfly .ensures)
 
 -- the needs without a name, for any answer: a wrong one hides none of them
