@@ -12,11 +12,11 @@ use fft_tables::fft_10;
 use fft_tables::fft_20;
 use fft_tables::fft_30;
 use fft_tables::fft_40;
-use fft_tables::plan_10;
 use fft_tables::plan_20;
 use fft_tables::plan_30;
 use fft_tables::plan_40;
 use kf_work::transform;
+use kf_work::transform_10;
 use twiddles::dct_10;
 use twiddles::dct_20;
 use twiddles::dct_30;
@@ -38,16 +38,7 @@ pub fn by_10(buf: &mut [f32])
     turn_in(buf, dr, di, &mut xr, &mut xi);
     let fft = fft_10();
     let t = &fft[..];
-    transform(
-        &mut ar,
-        &mut ai,
-        &xr,
-        &xi,
-        &t[..9],
-        &t[9..],
-        &plan_10(),
-        false,
-    );
+    transform_10(&mut ar, &mut ai, &xr, &xi, &t[..9], &t[9..]);
     turn_out(&ar, &ai, dr, di, buf);
 }
 

@@ -11,16 +11,16 @@ use Rattle.complex.specs.declared.Complex.{Complex}
 use Rattle.butterflies.specs.Butterflies.{stage}
 use Rattle.butterflies.proofs.Columns.{Local}
 use Rattle.butterflies.proofs.Local.{local2, local3, local4}
-use Rattle.kf_work.specs.Work.{within}
+use Rattle.kf_work.specs.Work.{within, span}
 use Rattle.kf_work.specs.Packed.{after, packedColumn, packedWork}
 use Rattle.kf_work.proofs.Spread.{within-lt, within-ge}
-use Rattle.kf_work.proofs.Plan.{Split}
+use Rattle.kf_work.proofs.Plan.{Split, whole, inner-positive}
 
 -- the sub-transforms of m places each, one after the other
 abbrev pub blocks : (ℕ → ℕ → Complex) → ℕ → ℕ → ℕ → ℕ → Complex
 blocks w m s o k = w (o + k / m * s) (k % m)
 
-pub column-local : (u : ℕ → Complex) (inverse : Bool) (p m : ℕ) → 2 ≤ p → p ≤ 4 → Local p m (packedColumn u inverse p m)
+column-local : (u : ℕ → Complex) (inverse : Bool) (p m : ℕ) → 2 ≤ p → p ≤ 4 → Local p m (packedColumn u inverse p m)
 unfolding packedColumn
 column-local u inverse zero m l h = absurd (omega arith)
 column-local u inverse (suc zero) m l h = absurd (omega arith)
@@ -44,8 +44,8 @@ stage-past : (p m : ℕ) (b : ℕ → (ℕ → Complex) → ℕ → Complex) (g 
 unfolding stage
 stage-past p m b g k h = rw (le-ltb k (p * m) h)
 
--- one stage over them is the transform
-pub finish : (p m : ℕ) (b : ℕ → (ℕ → Complex) → ℕ → Complex) → Local p m b → 0 < m → (w f g g′ : ℕ → Complex)
+-- one stage over them
+finish : (p m : ℕ) (b : ℕ → (ℕ → Complex) → ℕ → Complex) → Local p m b → 0 < m → (w f g g′ : ℕ → Complex)
     → g ≡ within (p * m) w f → g′ ≡ stage p m b g → g′ ≡ within (p * m) (stage p m b w) f
 finish p m b loc h w f g g′ before after = fun-ext (λ k. elim (decLt k (p * m)) [ yes l ↦ low k l | no n ↦ high k (omega arith) ])
   where
@@ -64,10 +64,19 @@ finish p m b loc h w f g g′ before after = fun-ext (λ k. elim (decLt k (p * m
         ∙ sym (within-ge (p * m) (stage p m b w) f k l)
 
 -- the transform by a plan, as one stage over the sub-transforms by the rest of it
-pub work-is : (u x : ℕ → Complex) (inverse : Bool) (ps : List ℕ) (p m : ℕ) (rest : List ℕ) (s o : ℕ) → Split ps p m rest
+work-is : (u x : ℕ → Complex) (inverse : Bool) (ps : List ℕ) (p m : ℕ) (rest : List ℕ) (s o : ℕ) → Split ps p m rest
     → packedWork u inverse x ps s o ≡ stage p m (packedColumn u inverse p m) (blocks (packedWork (after u p m) inverse x rest (s * p)) m s o)
 unfolding packedWork
 work-is u x inverse ps p m rest s o sp = ap (λ (l : List ℕ). packedWork u inverse x l s o) (sp .is)
+
+-- one stage over the sub-transforms is the transform
+pub staged : (u x : ℕ → Complex) (inverse : Bool) (ps : List ℕ) (p m : ℕ) (rest : List ℕ) (s o : ℕ) → Split ps p m rest → p ≤ 4 → (f g g′ : ℕ → Complex)
+    → g ≡ within (span ps) (blocks (packedWork (after u p m) inverse x rest (s * p)) m s o) f → g′ ≡ stage p m (packedColumn u inverse p m) g
+    → g′ ≡ within (span ps) (packedWork u inverse x ps s o) f
+staged u x inverse ps p m rest s o sp low f g g′ before turned =
+    let all = whole _ _ _ _ sp in
+    rw (work-is u x inverse ps p m rest s o sp, ← all)
+    (finish p m (packedColumn u inverse p m) (column-local u inverse p m (sp .at-least) low) (inner-positive _ _ _ _ sp) _ f g g′ (rw (← all) at before) turned)
 
 -- what a sub-transform makes, with its length and its table by other names
 pub sub-is : (u v x : ℕ → Complex) (inverse : Bool) (rest : List ℕ) (s o n m : ℕ) → n ≡ m → u ≡ v → (f g : ℕ → Complex)

@@ -2,6 +2,7 @@
 // Ported from src/common/kissfft.rs of lc3-codec 0.2.0, and changed: real and imaginary parts in slices of their own, twiddles and plan
 // lent, the twiddles in the order in which the stages read them; the innermost stage is done in the one above it. The butterflies are a crate below this one.
 ghost use mathlib.Core.Path.{_≡_};
+ghost use mathlib.Core.Bool.{false};
 ghost use Prim.Native.Nat.{_+_, _*_, _/_, _%_, _<_, _≤_};
 ghost use lib.Dec.{T};
 ghost use lib.ListN.{length, getD};
@@ -19,6 +20,8 @@ use butterflies::kf_bfly4;
 use butterflies::kf_bfly5;
 use columns::Out5;
 use complex::get;
+use quads::quad2;
+use quads::turn2;
 
 // Places from, from + s, .. of the input: the five numbers of an innermost stage.
 fn copied(x: &[f32], y: &[f32], s: usize, from: usize) -> Out5
@@ -150,4 +153,20 @@ pub fn transform(
     ensures { λ _. ⌜ (now (re .exit) ≡ reals (length (now (x .entry))) (packedSpectrum (at (now (tr .entry)) (now (ti .entry))) inverse (length (now (x .entry))) (at (now (x .entry)) (now (y .entry))))) × (now (im .exit) ≡ imaginaries (length (now (x .entry))) (packedSpectrum (at (now (tr .entry)) (now (ti .entry))) inverse (length (now (x .entry))) (at (now (x .entry)) (now (y .entry))))) ⌝ }
 {
     kf_work(re, im, x, y, tr, ti, factors, 1, 0, inverse);
+}
+
+// Inner. The same of ten numbers, forward. Their plan has one stage above the two innermost, and all is written out, with no plan to read: the compiler puts it
+// into its one caller, where it knows every place, and keeps the numbers in registers.
+pub fn transform_10(re: &mut [f32], im: &mut [f32], x: &[f32], y: &[f32], tr: &[f32], ti: &[f32])
+    requires { ⌜ (length (now x) ≡ 10) × (length (now y) ≡ 10) × (length (now tr) ≡ 9) × (length (now ti) ≡ 9) × (length (now re) ≡ 10) × (length (now im) ≡ 10) ⌝ }
+    ensures { λ _. ⌜ (now (re .exit) ≡ reals (length (now (x .entry))) (packedSpectrum (at (now (tr .entry)) (now (ti .entry))) false (length (now (x .entry))) (at (now (x .entry)) (now (y .entry))))) × (now (im .exit) ≡ imaginaries (length (now (x .entry))) (packedSpectrum (at (now (tr .entry)) (now (ti .entry))) false (length (now (x .entry))) (at (now (x .entry)) (now (y .entry))))) ⌝ }
+{
+    let ur = &tr[5..];
+    let ui = &ti[5..];
+    for q in 0..2 {
+        let column = copied(x, y, 2, q);
+        kf_bfly5(&mut re[q * 5..], &mut im[q * 5..], column, ur, ui);
+    }
+    quad2(re, im, tr, ti, 5, 0);
+    turn2(re, im, tr, ti, 5, 4);
 }

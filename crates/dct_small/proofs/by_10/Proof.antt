@@ -1,8 +1,7 @@
 -- `dct_small::by_10` meets its contract: the laws of an arm, at its size. Written by tools/tables. Assumes nothing.
 use mathlib.Core.Path.{refl, sym}
 use native.Mathlib.Nat.{le-refl}
-use borrow.Author.Needs.{needs}
-use Rattle.dct_steps.proofs.Arms.{dct, dct-room, fit, fft, fft-room, transforms, is-dct}
+use Rattle.dct_steps.proofs.Arms.{dct, dct-room, fit, fft, fft-room, is-dct}
 use Rattle.dct_small.proofs.by_10.Statement.{statement}
 use Rattle.dct_small.proofs.by_10.Tie as tie
 
@@ -29,11 +28,9 @@ by-10-spec =
     (λ c. fft-room 10 (c .before .before .before .before .before .before .before .before .before .before .before .before .before .before .before .before .before .before .pre .0) _ (c .before .before .before .before .before .before .fft-10 .ensures))
     (λ c. fft-room 10 (c .before .before .before .before .before .before .before .before .before .before .before .before .before .before .before .before .before .before .pre .0) _ (c .before .before .before .before .before .before .fft-10 .ensures))
     (λ c. le-refl _)
-    (λ c κs. tt)
-    (λ c. search needs)
-    (λ c κs. transforms 10 (c .before .before .before .before .before .before .before .before .before .before .before .before .before .before .before .before .before .before .before .before .before .pre .0) _ (c .before .before .before .before .before .before .before .before .before .fft-10 .ensures) (c .before .before .before .before .before .before .before .before .before .before .before .before .turn-in .kept .1 .1 .1 .0) (c .before .before .before .before .before .before .before .before .before .before .before .before .turn-in .kept .1 .1 .1 .1 .0) (c .before .plan-10 .ensures) refl refl)
-    (λ c. sym (c .before .before .before .transform .kept .0))
-    (λ c. sym (c .before .before .before .before .transform .kept .1 .0))
-    (λ c κs. fit 10 (c .before .before .before .before .before .before .before .before .before .before .before .before .before .before .before .before .before .before .before .before .before .before .before .before .before .before .before .pre .0) _ (c .before .before .before .before .before .before .before .before .before .before .before .before .before .before .before .before .before .before .before .before .before .before .before .before .before .dct-10 .ensures) (c .before .before .before .before .before .before .before .before .before .before .before .before .before .before .before .before .before .before .before .before .before .before .before .before .before .before .before .pre .1) (c .before .before .before .before .before .transform .kept .0) (c .before .before .before .before .before .transform .kept .1 .0))
+    (λ c κs. ((c .before .before .before .before .before .before .before .before .before .before .turn-in .kept .1 .1 .1 .0), (c .before .before .before .before .before .before .before .before .before .before .turn-in .kept .1 .1 .1 .1 .0), fft 10 (c .before .before .before .before .before .before .before .before .before .before .before .before .before .before .before .before .before .before .before .pre .0) _ (c .before .before .before .before .before .before .before .fft-10 .ensures) .re-fits, fft 10 (c .before .before .before .before .before .before .before .before .before .before .before .before .before .before .before .before .before .before .before .pre .0) _ (c .before .before .before .before .before .before .before .fft-10 .ensures) .im-fits, refl, refl))
+    (λ c. sym (c .before .before .before .transform-10 .kept .0))
+    (λ c. sym (c .before .before .before .before .transform-10 .kept .1 .0))
+    (λ c κs. fit 10 (c .before .before .before .before .before .before .before .before .before .before .before .before .before .before .before .before .before .before .before .before .before .before .before .before .before .pre .0) _ (c .before .before .before .before .before .before .before .before .before .before .before .before .before .before .before .before .before .before .before .before .before .before .before .dct-10 .ensures) (c .before .before .before .before .before .before .before .before .before .before .before .before .before .before .before .before .before .before .before .before .before .before .before .before .before .pre .1) (c .before .before .before .before .before .transform-10 .kept .0) (c .before .before .before .before .before .transform-10 .kept .1 .0))
     (λ c. (c .before .before .turn-out .kept .1 .1 .1 .1 .0))
-    (λ c. is-dct 10 (c .before .before .before .before .before .before .before .before .before .before .before .before .before .before .before .before .before .before .before .before .before .before .before .before .before .before .before .before .before .before .pre .0) _ _ _ (c .before .before .before .before .before .before .before .before .before .before .before .before .before .before .before .before .before .before .before .before .before .before .before .before .before .before .before .before .dct-10 .ensures) (c .before .before .before .before .before .before .before .before .before .before .before .before .before .before .before .before .before .before .fft-10 .ensures) (c .before .before .before .before .before .before .before .before .before .before .before .before .before .before .before .before .before .before .before .before .before .before .before .before .before .before .before .before .before .before .pre .1) refl (c .before .before .before .before .before .before .before .before .before .before .before .before .before .before .before .before .before .before .before .before .before .turn-in .ensures) (c .before .before .before .before .before .before .before .before .before .before .before .before .before .before .before .before .before .before .before .before .before .turn-in .kept .1 .1 .1 .0) (c .before .before .before .before .before .before .before .before .transform .ensures) (c .before .before .turn-out .ensures)))
+    (λ c. is-dct 10 (c .before .before .before .before .before .before .before .before .before .before .before .before .before .before .before .before .before .before .before .before .before .before .before .before .before .before .before .before .pre .0) _ _ _ (c .before .before .before .before .before .before .before .before .before .before .before .before .before .before .before .before .before .before .before .before .before .before .before .before .before .before .dct-10 .ensures) (c .before .before .before .before .before .before .before .before .before .before .before .before .before .before .before .before .fft-10 .ensures) (c .before .before .before .before .before .before .before .before .before .before .before .before .before .before .before .before .before .before .before .before .before .before .before .before .before .before .before .before .pre .1) refl (c .before .before .before .before .before .before .before .before .before .before .before .before .before .before .before .before .before .before .before .turn-in .ensures) (c .before .before .before .before .before .before .before .before .before .before .before .before .before .before .before .before .before .before .before .turn-in .kept .1 .1 .1 .0) (c .before .before .before .before .before .before .before .before .transform-10 .ensures) (c .before .before .turn-out .ensures)))

@@ -10,16 +10,14 @@ use denote.Ref.{now}
 use borrow.Author.Needs.{needs}
 use borrow.Fn.Kinds.{In}
 use borrow.Fn.PlainCycle.{Measures, is, falls, and}
-use Rattle.complex.specs.declared.Complex.{Complex}
 use Rattle.complex.specs.Complex.{at}
-use Rattle.butterflies.specs.Butterflies.{stage}
 use Rattle.kf_work.specs.Work.{within, span}
-use Rattle.kf_work.specs.Packed.{after, packedColumn, packedWork}
+use Rattle.kf_work.specs.Packed.{after, packedWork}
 use Rattle.kf_work.proofs.Plan.{Split, Taken, rest-of, plan-cons, taken, inner-positive, whole, table-nums, sub-nums}
 use Rattle.kf_work.proofs.Spread.{within-zero}
-use Rattle.kf_work.proofs.Stages.{blocks, column-local, finish, work-is, sub-is}
+use Rattle.kf_work.proofs.Stages.{blocks, staged, sub-is}
 use Rattle.kf_work.proofs.Parts.{call-done, from-on, from-on-length, from-on-at}
-use Rattle.kf_work.proofs.Leaves.{leaves-done}
+use Rattle.kf_work.proofs.Leaves.{leaves-staged}
 use Rattle.kf_work.proofs.+kf_work.{statement}
 use Rattle.kf_work.proofs.+kf_work.Tie.{close}
 use Rattle.kf_work.proofs.kf_work.Reads as kf-work
@@ -89,24 +87,6 @@ module _ (t : ℕ) (st : kf-work-lts.Start (kf-work-claims t) (kf-work-at t) kf-
   sub : (q : ℕ) → q < radix → (q * inner + inner ≤ span ps) × (span (rest-of ps) * (st .args .fstride * radix) ≡ span ps * st .args .fstride) × (st .args .fstride * radix ≤ span ps * st .args .fstride) × (st .args .from + q * st .args .fstride < st .args .fstride * radix)
   sub q l = sub-nums _ _ _ _ first (st .args .fstride) (st .args .from) q (st .pre .1 .3) l
 
-  -- the sub-transforms
-  abbrev below : ℕ → Complex
-  below = blocks (packedWork (after (at (st .args .tr .now) (st .args .ti .now)) radix inner) (st .args .inverse) (at (st .args .x .now) (st .args .y .now)) (rest-of ps) (st .args .fstride * radix)) inner (st .args .fstride) (st .args .from)
-
-  by-fives : inner ≡ 5 → (g g′ : ℕ → Complex) → g′ ≡ stage radix 5 (packedColumn (at (st .args .tr .now) (st .args .ti .now)) (st .args .inverse) radix 5) g
-      → g′ ≡ stage radix inner (packedColumn (at (st .args .tr .now) (st .args .ti .now)) (st .args .inverse) radix inner) g
-  by-fives five g g′ turned = rw five turned
-
-  -- one stage over the sub-transforms is the transform
-  staged : (g g′ : ℕ → Complex) → g ≡ within (span ps) below (at (st .args .re .now) (st .args .im .now))
-      → g′ ≡ stage radix inner (packedColumn (at (st .args .tr .now) (st .args .ti .now)) (st .args .inverse) radix inner) g
-      → g′ ≡ within (span ps) (packedWork (at (st .args .tr .now) (st .args .ti .now)) (st .args .inverse) (at (st .args .x .now) (st .args .y .now)) ps (st .args .fstride) (st .args .from)) (at (st .args .re .now) (st .args .im .now))
-  staged g g′ before turned =
-      let u = at (st .args .tr .now) (st .args .ti .now) in
-      let all = whole _ _ _ _ first in
-      rw (work-is u (at (st .args .x .now) (st .args .y .now)) (st .args .inverse) ps _ _ _ (st .args .fstride) (st .args .from) first, ← all)
-      (finish radix inner (packedColumn u (st .args .inverse) radix inner) (column-local u (st .args .inverse) radix inner (here .0) (here .1)) (here .2) below _ g g′ (rw (← all) at before) turned)
-
 kf-work-kf-leaves-requires : (t : ℕ) → kf-work-lts.Need-kf-leaves-requires (kf-work-claims t) (kf-work-at t) kf-work.Post kf-work-Inv-loop kf-work-μ-loop
 kf-work-kf-leaves-requires t c κs =
     let st = c .before .before .before .before .before .before .before .before .before .before .before .before .before .before in
@@ -138,9 +118,7 @@ kf-work-returns t c =
     let st = c .before .before .before .before .before .before .before .before .before .before .before .before .before .before .before .before .before .before .before .before .before .before .before .before .before .before in
     let a = st .args in
     let five = c .before .before .before .before .before .before .before .before .before .before .before .before .before .before .if1 .taken in
-    staged t st _ _
-    (leaves-done _ _ (at (a .x .now) (a .y .now)) (a .inverse) (rest-of (ps t st)) _ _ _ (a .fstride) (a .from) (lent-on t st) five (lower t st .rest-below .innermost (sym (first t st .inner) ∙ five)) (whole _ _ _ _ (first t st)) _ _ (c .before .before .before .before .before .before .before .before .before .before .before .kf-leaves .ensures))
-    (by-fives t st five _ _ (c .before .before .before .before .kf-fives .ensures))
+    leaves-staged (at (a .tr .now) (a .ti .now)) _ (at (a .x .now) (a .y .now)) (a .inverse) (ps t st) _ _ _ (a .fstride) (a .from) (first t st) (lower t st .low) (lent-on t st) five (lower t st .rest-below .innermost (sym (first t st .inner) ∙ five)) _ _ _ (c .before .before .before .before .before .before .before .before .before .before .before .kf-leaves .ensures) (c .before .before .before .before .kf-fives .ensures)
 
 kf-work-kf-work-requires : (t : ℕ) → kf-work-lts.Need-kf-work-requires (kf-work-claims t) (kf-work-at t) kf-work.Post kf-work-Inv-loop kf-work-μ-loop
 kf-work-kf-work-requires t c κs =
@@ -191,8 +169,9 @@ kf-work-returns-2 : (t : ℕ) → kf-work-lts.Need-returns-2 (kf-work-claims t) 
 kf-work-returns-2 t c =
     let st = c .before .before .before .before .before .before .before .before .before .before .before .before .before .before .before .before .before .before .before .before .before .before in
     let lp = c .before .before .before .before .before .before .before .before .loop in
+    let a = st .args in
     let past : lp .q ≡ radix t st = omega (arith, c .before .before .before .before .before .before .before .loop-test .left, lp .inv .2) in
-    staged t st _ _ (rw (past, whole _ _ _ _ (first t st)) at (lp .inv .3)) (c .before .before .before .before .kf-bfly .ensures)
+    staged (at (a .tr .now) (a .ti .now)) (at (a .x .now) (a .y .now)) (a .inverse) (ps t st) _ _ _ (a .fstride) (a .from) (first t st) (lower t st .low) _ _ _ (rw (past, whole _ _ _ _ (first t st)) at (lp .inv .3)) (c .before .before .before .before .kf-bfly .ensures)
 
 -- the needs without a name, for any answer: a wrong one hides none of them
 safe : ((t : ℕ) → kf-work-lts.Need-returns (kf-work-claims t) (kf-work-at t) kf-work.Post kf-work-Inv-loop kf-work-μ-loop)

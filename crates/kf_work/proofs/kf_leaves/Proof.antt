@@ -10,8 +10,7 @@ use Rattle.kf_work.specs.Work.{within}
 use Rattle.kf_work.specs.Packed.{innermost}
 use Rattle.kf_work.proofs.Spread.{within-zero}
 use Rattle.kf_work.proofs.Stages.{blocks}
-use Rattle.kf_work.proofs.Parts.{call-done}
-use Rattle.kf_work.proofs.Leaves.{leaf-done, leaf-in}
+use Rattle.kf_work.proofs.Leaves.{leaf-more, leaf-in}
 use Rattle.kf_work.proofs.kf_leaves.Statement.{statement}
 use Rattle.kf_work.proofs.kf_leaves.Tie as tie
 
@@ -94,8 +93,7 @@ loop-again c =
       c .before .im .given .1 ∙ lp .inv .1,
       omega (arith, c .before .before .before .before .before .before .before .before .if1 .taken),
       lp .inv .3,
-      call-done (innermost u x s) 5 (a .fstride) (a .from) (lp .q) (omega arith) _ (lp .re) (lp .im) (c .before .before .before .before .kf-bfly5 .last .0) (c .before .before .before .before .kf-bfly5 .last .1 .0) (omega (arith, c .before .before .before .before .before .before .before .before .if1 .taken, lp .inv .0, c .before .before .before .before .before .before .before .before .before .before .before .before .before .before .before .before .before .before .before .pre .6)) (omega (arith, c .before .before .before .before .before .before .before .before .if1 .taken, lp .inv .1, c .before .before .before .before .before .before .before .before .before .before .before .before .before .before .before .before .before .before .before .pre .7)) (lp .inv .4)
-          (leaf-done u x s o _ _ _ read (c .before .before .before .before .kf-bfly5 .ensures)),
+      leaf-more u x s (a .fstride) (a .from) (lp .q) _ (lp .re) (lp .im) (c .before .before .before .before .kf-bfly5 .last .0) (c .before .before .before .before .kf-bfly5 .last .1 .0) _ (omega (arith, c .before .before .before .before .before .before .before .before .if1 .taken, lp .inv .0, c .before .before .before .before .before .before .before .before .before .before .before .before .before .before .before .before .before .before .before .pre .6)) (omega (arith, c .before .before .before .before .before .before .before .before .if1 .taken, lp .inv .1, c .before .before .before .before .before .before .before .before .before .before .before .before .before .before .before .before .before .before .before .pre .7)) (lp .inv .4) read (c .before .before .before .before .kf-bfly5 .ensures),
     )
 
 same-length : tie.Need-same-length Inv-loop μ-loop
