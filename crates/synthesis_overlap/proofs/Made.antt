@@ -1,4 +1,5 @@
--- What the callees ensure, put together, in the configuration's terms; and an arm's number in place of the configuration. Assumes nothing.
+-- What the callees ensure, put together, in the configuration's terms, from `overlap_with` and from an arm that calls the steps itself; and an arm's number in
+-- place of the configuration. Assumes nothing.
 use mathlib.Core.Path.{_≡_, sym, ap, _∙_}
 use mathlib.Core.List.{List, zipWith}
 use Prim.Native.Nat.{ℕ, _-_, _*_, _≤_, zero-le}

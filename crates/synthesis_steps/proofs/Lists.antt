@@ -64,7 +64,7 @@ length-zipWith f (x ∷ xs) [] e = absurd (none (length xs) e)
 length-zipWith f (x ∷ xs) (y ∷ ys) e = ap suc (length-zipWith f xs ys (omega arith))
 
 -- two together, the second in two parts, the first of them of n places
-pub zipWith-append : {A B C : Type 0} (f : A → B → C) (xs : List A) (ys zs : List B) (n : ℕ) → length ys ≡ n → zipWith f xs (ys ++ zs) ≡ zipWith f (take n xs) ys ++ zipWith f (drop n xs) zs
+zipWith-append : {A B C : Type 0} (f : A → B → C) (xs : List A) (ys zs : List B) (n : ℕ) → length ys ≡ n → zipWith f xs (ys ++ zs) ≡ zipWith f (take n xs) ys ++ zipWith f (drop n xs) zs
 unfolding zipWith
 zipWith-append {A} {B} {C} f xs ys zs n e = go xs ys ∙ ap (λ (k : ℕ). zipWith f (take k xs) ys ++ zipWith f (drop k xs) zs) e
   where
