@@ -1,17 +1,21 @@
--- What the callees ensure, put together, in the configuration's terms; and an arm's number in place of the configuration. Assumes nothing.
+-- What the callees ensure, put together, in the configuration's terms, from `overlap_with` and from an arm that calls the steps itself; and an arm's number in
+-- place of the configuration. Assumes nothing.
 use mathlib.Core.Path.{_≡_, sym, ap, _∙_}
-use mathlib.Core.List.{List}
-use Prim.Native.Nat.{ℕ, _-_, _*_, _≤_}
+use mathlib.Core.List.{List, zipWith}
+use Prim.Native.Nat.{ℕ, _-_, _*_, _≤_, zero-le}
 use native.Mathlib.Omega.{arith}
 use lib.Dec.{T}
-use lib.ListN.{length}
-use lib.Ieee.{Float}
+use lib.ListN.{length, take, drop, replicate, length-replicate}
+use lib.Ieee.{Float, binary32, add}
+use Rattle.laws.specs.Numbers.{zero32}
 use Rattle.config.specs.Config.{valid, nf, z, half}
 use Rattle.config.proofs.Sound.{sound}
 use Rattle.windows.specs.Windows.{window, Numbers}
 use Rattle.windows.proofs.Entries.{window-length, window-numbers}
 use Rattle.twiddles.specs.Twiddles.{gain}
 use Rattle.synthesis_steps.specs.Places.{unfolded, scaled, windowed, output, remains}
+use Rattle.synthesis_steps.proofs.Places.{length-scaled}
+use Rattle.synthesis_steps.proofs.Lengths.{whole-output}
 
 -- what the steps ask of a configuration, in h = half c
 pub record Asked (c : ℕ) : Type 0 where
@@ -48,3 +52,32 @@ module _ (c : ℕ) (v : T (valid c)) {g : Float} {h k : ℕ} {w : List ℕ} (y :
 
   pub with-samples : (past : List Float) {s : List Float} → s ≡ output (2 * h) k past (windowed w (unfolded h (scaled g y))) → s ≡ output (nf c) (z c) past (under c y)
   with-samples past e = e ∙ (λ j. output (twice j) (ek j) past (windowed (ew j) (unfolded (eh j) (scaled (eg j) y))))
+
+-- the numbers of a configuration as an arm has them that calls the steps itself: n is nf, h is nf / 2, and z is 0
+pub record Written (c n h : ℕ) : Type 0 where
+  pub frame : nf c ≡ n
+  pub points : h ≡ half c
+  pub no-zeros : 0 ≡ z c
+
+module _ (c : ℕ) (v : T (valid c)) {n h : ℕ} (e : Written c n h) where
+  pub area-fits : (y : List Float) {b : List Float} → length y ≡ nf c → b ≡ replicate n zero32 → length y ≡ length b
+  area-fits y s eb = s ∙ e .frame ∙ sym (ap length eb ∙ length-replicate n zero32)
+
+  -- what the steps ask, of the values y scaled to b
+  pub fits : (past y : List Float) (g : Float) {b : List Float} {w : List ℕ} → length past ≡ nf c - z c → length y ≡ nf c → w ≡ window c → b ≡ scaled g y
+      → (h ≤ 240) × (0 ≤ h) × (length b ≡ 2 * h) × (length w ≡ 4 * h) × Numbers w × (length past ≡ 2 * h - 0) × (length y ≡ 2 * h - 0)
+  fits past y g m s ew eb =
+      let q = asked c v in
+      let t = sound c v in
+      let l : length y ≡ 2 * h = omega arith in
+      (omega arith, zero-le, ap length eb ∙ length-scaled g y ∙ l, ap length ew ∙ omega arith, rw ew (q .numbers), omega arith, omega arith)
+
+  -- and what they leave
+  pub left : (past y : List Float) {g : Float} {b : List Float} {w : List ℕ} {m s : List Float} → g ≡ gain n → w ≡ window c → b ≡ scaled g y
+      → m ≡ remains (2 * h) 0 (windowed w (unfolded h b)) → s ≡ zipWith (add binary32) past (take (2 * h - 0) (drop 0 (windowed w (unfolded h b))))
+      → (m ≡ remains (nf c) (z c) (under c y)) × (s ≡ output (nf c) (z c) past (under c y))
+  left past y {w = w} eg ew eb em es =
+      let f = eg ∙ ap gain (sym (e .frame)) in (
+        with-memory c v y f (e .points) (e .no-zeros) ew (em ∙ ap (λ (r : List Float). remains (2 * h) 0 (windowed w (unfolded h r))) eb),
+        with-samples c v y f (e .points) (e .no-zeros) ew past (es ∙ whole-output (2 * h) past _ ∙ ap (λ (r : List Float). output (2 * h) 0 past (windowed w (unfolded h r))) eb),
+      )

@@ -222,7 +222,12 @@ fn overlap_n20_2p5ms(memory: &mut [f32], samples: &mut [f32])
     ensures memory { λ _. ⌜ now (memory .exit) ≡ remains (nf 15) (z 15) (windowed (window 15) (unfolded (half 15) (scaled (gain (nf 15)) (now (samples .entry))))) ⌝ }
     ensures samples { λ _. ⌜ now (samples .exit) ≡ output (nf 15) (z 15) (now (memory .entry)) (windowed (window 15) (unfolded (half 15) (scaled (gain (nf 15)) (now (samples .entry))))) ⌝ }
 {
-    overlap_with(15, &w_n20_2p5ms(), &mut zeros_20(), memory, samples);
+    // loops as short as these pay for being set up: called from here, the compiler knows how often each turns
+    let w = w_n20_2p5ms();
+    let mut v = zeros_20();
+    synthesis_steps::scaled(samples, twiddles::gain(20), &mut v);
+    synthesis_steps::overlapped(&v, &w, memory, samples, 0, 10);
+    synthesis_steps::remaining(&v, &w, memory, 0, 10);
 }
 
 fn overlap_n40_2p5ms(memory: &mut [f32], samples: &mut [f32])

@@ -1,13 +1,14 @@
 -- How long the samples and the memory of a frame are, and of which places they are. Assumes nothing.
-use mathlib.Core.Path.{_≡_, sym, ap, ap₂, _∙_}
-use mathlib.Core.List.{List, _++_, zipWith}
+use mathlib.Core.Path.{_≡_, sym, ap, _∙_}
+use mathlib.Core.List.{List, _++_, append-nil, zipWith}
 use Prim.Native.Nat.{ℕ, _+_, _-_, _*_, _≤_}
 use native.Mathlib.Omega.{arith}
 use lib.ListN.{length, take, drop, length-append, length-drop}
-use lib.Seq.{length-take-le, drop-at, take-all, take-take, take-add, drop-drop}
+use lib.Seq.{length-take-le, drop-at, take-all}
 use lib.Ieee.{Float, binary32, add}
+use borrow.Rule.Slice.PartMut.{midOf, putMid}
 use Rattle.synthesis_steps.specs.Places.{output, remains}
-use Rattle.synthesis_steps.proofs.Lists.{length-zipWith}
+use Rattle.synthesis_steps.proofs.Lists.{length-zipWith, second-lent, two-parts}
 
 module _ (n z : ℕ) (t : List Float) (b : z ≤ n) (e : length t ≡ 2 * n) where
   pub length-remains : length (remains n z t) ≡ n - z
@@ -27,23 +28,19 @@ module _ (n z : ℕ) (t : List Float) (b : z ≤ n) (e : length t ≡ 2 * n) whe
     unfolding output
     last-output = drop-at (zipWith (add binary32) m (take (n - z) (drop z t))) (take z (drop n t)) (n - z) sums
 
-    -- n places from z on, and the memory over the first of them
-    behind : drop (n - z) (take n (drop z t)) ≡ take z (drop n t)
-    behind =
-        let f : n ≡ n - z + z = omega arith in
-        let g : z + (n - z) ≡ n = omega arith in
-        ap (λ (k : ℕ). drop (n - z) (take k (drop z t))) f
-        ∙ ap (drop (n - z)) (take-add (n - z) z (drop z t))
-        ∙ drop-at (take (n - z) (drop z t)) (take z (drop (n - z) (drop z t))) (n - z) (length-take-le (n - z) (drop z t) (omega (arith, length-drop z t)))
-        ∙ ap (take z) (drop-drop (n - z) z t ∙ ap (λ (k : ℕ). drop k t) g)
-
-    pub made-output : {s r : List Float} → s ≡ take n (drop z t) → r ≡ zipWith (add binary32) m (take (length m) s) ++ drop (length m) s → r ≡ output n z m t
+    -- the first n - z places of l came back with the memory added, and the others as places n to n + z - 1
+    pub made-output : (l : List Float) {p q : List Float} → length l ≡ n → p ≡ zipWith (add binary32) m (take (n - z) (drop z t)) → q ≡ take (length (midOf (n - z) (length (p ++ drop (n - z) l) - (n - z)) (p ++ drop (n - z) l))) (drop n t)
+        → putMid (n - z) (length (p ++ drop (n - z) l) - (n - z)) (p ++ drop (n - z) l) q ≡ output n z m t
     unfolding output
-    made-output p q =
-        q
-        ∙ ap₂ (λ (k : ℕ) (x : List Float). zipWith (add binary32) m (take k x) ++ drop k x) l p
-        ∙ ap₂ (λ (x y : List Float). zipWith (add binary32) m x ++ y) (take-take (n - z) n (drop z t) (omega arith)) behind
+    made-output l k i j =
+        let r : length (drop (n - z) l) ≡ z = omega (arith, length-drop (n - z) l) in
+        two-parts (n - z) l i sums (j ∙ ap (λ (o : ℕ). take o (drop n t)) (ap length (second-lent (n - z) l i sums) ∙ r))
 
     pub made-remains : {r : List Float} → r ≡ take (length m) (drop (n + z) t) → r ≡ remains n z t
     unfolding remains
     made-remains p = p ∙ take-all (length m) (drop (n + z) t) (omega (arith, length-drop (n + z) t))
+
+-- with z = 0 no sample comes without the memory
+pub whole-output : (n : ℕ) (m t : List Float) → zipWith (add binary32) m (take (n - 0) (drop 0 t)) ≡ output n 0 m t
+unfolding output
+whole-output n m t = sym (append-nil (zipWith (add binary32) m (take (n - 0) (drop 0 t))))

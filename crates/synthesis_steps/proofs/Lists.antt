@@ -63,6 +63,16 @@ length-zipWith f (x ∷ xs) [] e = absurd (none (length xs) e)
     none n e = omega arith
 length-zipWith f (x ∷ xs) (y ∷ ys) e = ap suc (length-zipWith f xs ys (omega arith))
 
+-- two together, the second in two parts, the first of them of n places
+zipWith-append : {A B C : Type 0} (f : A → B → C) (xs : List A) (ys zs : List B) (n : ℕ) → length ys ≡ n → zipWith f xs (ys ++ zs) ≡ zipWith f (take n xs) ys ++ zipWith f (drop n xs) zs
+unfolding zipWith
+zipWith-append {A} {B} {C} f xs ys zs n e = go xs ys ∙ ap (λ (k : ℕ). zipWith f (take k xs) ys ++ zipWith f (drop k xs) zs) e
+  where
+    go : (xs : List A) (ys : List B) → zipWith f xs (ys ++ zs) ≡ zipWith f (take (length ys) xs) ys ++ zipWith f (drop (length ys) xs) zs
+    go xs [] = refl
+    go [] (y ∷ ys) = refl
+    go (x ∷ xs) (y ∷ ys) = ap (λ (l : List C). f x y ∷ l) (go xs ys)
+
 -- a loop over every place has made the list whose places are f's
 pub filled-is : {A : Type 0} {f : ℕ → A} {l : List A} {i : ℕ} {out : List A} (d : A) (r : List A) → Filled f l i out → i ≡ length l → length r ≡ length l → ((k : ℕ) → k < length l → getD r k d ≡ f k) → out ≡ r
 filled-is {A} {f} {l} {i} {out} d r h e s p = filled-all h e ∙ sym (is-tab d r (length l) f s p)
@@ -82,12 +92,35 @@ module _ {A : Type 0} (n : ℕ) (l : List A) {p x : List A} (i : p ≡ x) (e : l
   two-parts {q} {y} j = put-tail n (p ++ drop n l) q ∙ ap (λ (r : List A). r ++ q) (take-at p (drop n l) n (ap length i ∙ e) ∙ i) ∙ ap (λ (r : List A). x ++ r) j
 
 -- both parts of l are places of t, those of the second behind those of the first
-pub two-places : {A : Type 0} (n : ℕ) (l : List A) (from to : ℕ) (t : List A) {p q : List A} → n ≤ length l → from + length l ≤ length t → from + n ≡ to → p ≡ take (length (take n l)) (drop from t) → q ≡ take (length (midOf n (length (p ++ drop n l) - n) (p ++ drop n l))) (drop to t)
-    → putMid n (length (p ++ drop n l) - n) (p ++ drop n l) q ≡ take (length l) (drop from t)
-two-places {A} n l from to t b s f i j =
-    let e = length-take-le n (drop from t) (omega (arith, length-drop from t)) in
-    let k : take (length (take n l)) (drop from t) ≡ take n (drop from t) = ap (λ (m : ℕ). take m (drop from t)) (length-take-le n l b) in
-    let g : n + length (drop n l) ≡ length l = omega (arith, length-drop n l) in
-    two-parts n l (i ∙ k) e (j ∙ ap₂ (λ (r m : List A). take (length r) m) (second-lent n l (i ∙ k) e) (ap (λ (m : ℕ). drop m t) (sym f) ∙ sym (drop-drop n from t)))
-    ∙ sym (take-add n (length (drop n l)) (drop from t))
-    ∙ ap (λ (m : ℕ). take m (drop from t)) g
+module _ {A : Type 0} (n : ℕ) (l : List A) (from to : ℕ) (t : List A) (b : n ≤ length l) (s : from + length l ≤ length t) (f : from + n ≡ to) where
+  firsts : length (take n (drop from t)) ≡ n
+  firsts = length-take-le n (drop from t) (omega (arith, length-drop from t))
+
+  -- what a call says of the first part, as long as the part that it was lent
+  lent-first : take (length (take n l)) (drop from t) ≡ take n (drop from t)
+  lent-first = ap (λ (k : ℕ). take k (drop from t)) (length-take-le n l b)
+
+  joined : take n (drop from t) ++ take (length (drop n l)) (drop to t) ≡ take (length l) (drop from t)
+  joined =
+      let g : n + length (drop n l) ≡ length l = omega (arith, length-drop n l) in
+      ap (λ (r : List A). take n (drop from t) ++ take (length (drop n l)) r) (ap (λ (k : ℕ). drop k t) (sym f) ∙ sym (drop-drop n from t))
+      ∙ sym (take-add n (length (drop n l)) (drop from t))
+      ∙ ap (λ (k : ℕ). take k (drop from t)) g
+
+  pub two-places : {p q : List A} → p ≡ take (length (take n l)) (drop from t) → q ≡ take (length (midOf n (length (p ++ drop n l) - n) (p ++ drop n l))) (drop to t)
+      → putMid n (length (p ++ drop n l) - n) (p ++ drop n l) q ≡ take (length l) (drop from t)
+  two-places i j =
+      let i = i ∙ lent-first in
+      two-parts n l i firsts (j ∙ ap (λ (r : List A). take (length r) (drop to t)) (second-lent n l i firsts)) ∙ joined
+
+  -- the same with m added to them, or whatever the operation is
+  pub two-sums : (g : A → A → A) (m : List A) {p q : List A} → length m ≡ length l → p ≡ zipWith g (take n m) (take (length (take n l)) (drop from t))
+      → q ≡ zipWith g (midOf n (length m - n) m) (take (length (midOf n (length (p ++ drop n l) - n) (p ++ drop n l))) (drop to t))
+      → putMid n (length (p ++ drop n l) - n) (p ++ drop n l) q ≡ zipWith g m (take (length l) (drop from t))
+  two-sums g m k i j =
+      let i = i ∙ ap (zipWith g (take n m)) lent-first in
+      let d = length-take-le n m (omega arith) in
+      let e = length-zipWith g (take n m) (take n (drop from t)) (d ∙ sym firsts) ∙ d in
+      two-parts n l i e (j ∙ ap₂ (λ (x y : List A). zipWith g x (take (length y) (drop to t))) (mid-tail n m) (second-lent n l i e))
+      ∙ sym (zipWith-append g m (take n (drop from t)) (take (length (drop n l)) (drop to t)) n firsts)
+      ∙ ap (zipWith g m) joined

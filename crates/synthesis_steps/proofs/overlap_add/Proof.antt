@@ -1,46 +1,35 @@
--- `synthesis_steps::overlap_add` meets its contract: in the samples, before the memory is added, and in the memory the places of two calls are those that follow on one another.
--- Assumes nothing.
-use mathlib.Core.Path.{_≡_, sym, ap, _∙_}
-use Prim.Native.Nat.{ℕ, _+_, _-_, _*_, _≤_}
+-- `synthesis_steps::overlap_add` meets its contract: the samples that the memory is added to, then those without it, then the memory. Assumes nothing.
+use mathlib.Core.Path.{_≡_, sym}
+use Prim.Native.Nat.{_-_, _*_, _≤_}
 use native.Mathlib.Omega.{arith}
-use lib.ListN.{length, take, drop}
+use lib.ListN.{length}
 use lib.Seq.{length-take-le}
 use borrow.Author.Needs.{needs}
-use Rattle.synthesis_steps.proofs.Lists.{two-places}
 use Rattle.synthesis_steps.proofs.Unfold.{places, length-places}
-use Rattle.synthesis_steps.proofs.Lengths.{made-output, made-remains}
+use Rattle.synthesis_steps.proofs.Lengths.{made-output}
 use Rattle.synthesis_steps.proofs.overlap_add.Statement.{statement}
 use Rattle.synthesis_steps.proofs.overlap_add.Tie as tie
 
-first-quarter-requires : tie.Need-first-quarter-requires
-first-quarter-requires c κs =
-    let a = c .before .before .before .before .before .args in
-    let p = c .before .before .before .before .before .pre in
-    (p .0, p .2, p .3, p .4, omega (arith, p, length-take-le (a .h - a .z) (a .samples .now) (omega arith)))
+overlapped-requires : tie.Need-overlapped-requires
+overlapped-requires c κs =
+    let a = c .before .before .before .before .before .before .args in
+    let p = c .before .before .before .before .before .before .pre in
+    (p .0, p .1, p .2, p .3, p .4, p .5, length-take-le (2 * a .h - a .z) (a .samples .now) (omega arith))
 
 middle-half-requires : tie.Need-middle-half-requires
-middle-half-requires c κs = search needs
-
-middle-half-requires-2 : tie.Need-middle-half-requires-2
-middle-half-requires-2 c κs =
-    let a = c .before .before .before .before .before .before .before .before .before .before .before .before .before .before .before .before .before .before .args in
-    let p = c .before .before .before .before .before .before .before .before .before .before .before .before .before .before .before .before .before .before .pre in
-    (p .0, p .2, p .3, p .4, omega (arith, p), omega (arith, p, length-take-le (a .h - a .z) (a .memory .now) (omega arith)))
-
-last-quarter-requires : tie.Need-last-quarter-requires
-last-quarter-requires c κs = let p = c .before .before .before .before .before .before .before .before .before .before .before .before .before .before .before .before .before .before .before .before .before .before .pre in (p .0, p .2, p .3, p .4, search needs)
+middle-half-requires c κs =
+    let p = c .before .before .before .before .before .before .before .before .before .before .pre in
+    (p .0, p .2, p .3, p .4, omega (arith, p), omega (arith, p))
 
 returns : tie.Need-returns
 returns c =
-    let a = c .before .before .before .before .before .before .before .before .before .before .before .before .before .before .before .before .before .before .before .before .before .before .before .before .before .args in
-    let p = c .before .before .before .before .before .before .before .before .before .before .before .before .before .before .before .before .before .before .before .before .before .before .before .before .before .pre in
+    let a = c .before .before .before .before .before .before .before .before .before .before .before .before .before .before .before .before .before .args in
+    let p = c .before .before .before .before .before .before .before .before .before .before .before .before .before .before .before .before .before .pre in
     let t = places (a .h) (a .v .now) (a .w .now) in
     let n = length-places (a .h) (a .v .now) (a .w .now) (p .2) (p .3) in
     let b : a .z ≤ 2 * a .h = omega (arith, p .1) in
-    let e : length t ≡ 2 * (2 * a .h) = omega (arith, n) in (
-      made-output (2 * a .h) (a .z) t b e (a .memory .now) (p .5) (two-places (a .h - a .z) (a .samples .now) (a .z) (a .h) t (omega (arith, p)) (omega (arith, p, n)) (omega arith) (c .before .before .before .before .before .before .before .before .before .before .before .before .before .before .before .before .before .before .before .first-quarter .ensures) (c .before .before .before .before .before .before .before .before .before .before .before .before .before .before .before .middle-half .ensures) ∙ ap (λ (k : ℕ). take k (drop (a .z) t)) (p .6)) (c .before .before .before .before .before .before .before .before .before .before .overlap .ensures),
-      made-remains (2 * a .h) (a .z) t b e (a .memory .now) (p .5) (two-places (a .h - a .z) (a .memory .now) (2 * a .h + a .z) (3 * a .h) t (omega (arith, p)) (omega (arith, p, n)) (omega arith) (c .before .before .before .before .before .before .middle-half2 .ensures) (c .before .before .last-quarter .ensures)),
-    )
+    let e : length t ≡ 2 * (2 * a .h) = omega (arith, n) in
+    (made-output (2 * a .h) (a .z) t b e (a .memory .now) (p .5) (a .samples .now) (p .6) (c .before .before .before .before .before .before .before .before .before .before .overlapped .ensures) (c .before .before .before .before .before .before .middle-half .ensures), c .before .before .remaining .ensures)
 
 -- the needs without a name, for any answer: a wrong one hides none of them
 safe : tie.Need-returns → {M : Type 1} → statement M
@@ -49,24 +38,16 @@ safe returns =
     (tie.spec
     (λ c. search needs)
     (λ c. search needs)
+    (λ c. search needs)
     (λ c. sym (length-take-le _ _ (omega arith)))
-    first-quarter-requires
+    overlapped-requires
+    (λ c. search needs)
     (λ c. search needs)
     (λ c. search needs)
     (λ c. search needs)
     (λ c. search needs)
     middle-half-requires
     (λ c κs. search needs)
-    (λ c. search needs)
-    (λ c. search needs)
-    (λ c. search needs)
-    (λ c. sym (length-take-le _ _ (omega arith)))
-    middle-half-requires-2
-    (λ c. search needs)
-    (λ c. search needs)
-    (λ c. search needs)
-    (λ c. search needs)
-    last-quarter-requires
     (λ c. search needs)
     (λ c. search needs)
     returns)
