@@ -2,9 +2,10 @@
 //! on their copy with the short frames, and knows the configurations of those that it is built on.
 //!   check                     compares the bits of both on random input, and prints how many calls agree
 //!   count SIDE CALL CONFIG N  makes N calls and prints nothing: its instructions are what is counted
-//!   time CALL CONFIG          times both sides alternately, and prints the shortest time of a call of ours and of lc3-codec's, in nanoseconds
+//!   time CALL CONFIG          times all sides alternately, and prints the shortest time of a call of each, in nanoseconds, in the order below
 //!   stack SIDE CALL CONFIG    prints how many bytes of stack a call touches, a channel handed in by value included
-//! SIDE is rust or port, CALL dct, analysis or synthesis. Buffers are made once and never cleared between calls.
+//! SIDE is port (the channel handed in and back by value), place (the channel where it is; a DCT, which has none, is the same call) or rust. CALL is dct,
+//! analysis or synthesis. Buffers are made once and never cleared between calls.
 
 mod port;
 
@@ -17,6 +18,7 @@ use std::time::Instant;
 
 const ROUNDS: usize = 50;
 const CALLS: [&str; 3] = ["dct", "analysis", "synthesis"];
+const SIDES: [&str; 3] = ["port", "place", "rust"];
 
 fn numbers() -> impl Iterator<Item = u8> {
     (0..=u8::MAX).filter(|&number| configs::config(number).is_some())
@@ -143,6 +145,24 @@ impl Call for PortAnalysis {
     }
 }
 
+struct PlaceAnalysis(port::AnalysisFramed, Frame);
+
+impl Call for PlaceAnalysis {
+    fn give(&mut self, pick: &mut Random) {
+        pick.samples(&mut self.1.input)
+    }
+    fn make(&mut self) {
+        let (x, l, e) = (&self.1.input, &mut self.1.lines, &mut self.1.energies);
+        let c = &mut self.0.channel;
+        let told = unsafe { port::loamscarf_analysis_frame_at(c.config, &mut c.samples, x.as_ptr(), x.len(), l.as_mut_ptr(), l.len(), e.as_mut_ptr(), e.len()) };
+        (self.0.number, self.0.flag) = (told.number, told.flag);
+    }
+    fn bits(&self) -> Vec<u32> {
+        assert_eq!(self.0.number, 0, "the port refuses a frame in place");
+        self.1.bits(self.0.flag)
+    }
+}
+
 struct RustSynthesis(decoder::modified_dct::ModDiscreteCosTrans<'static>, Vec<f32>, Vec<f32>);
 
 impl Call for RustSynthesis {
@@ -173,6 +193,24 @@ impl Call for PortSynthesis {
     }
 }
 
+struct PlaceSynthesis(port::SynthesisFramed, Vec<f32>, Vec<f32>);
+
+impl Call for PlaceSynthesis {
+    fn give(&mut self, pick: &mut Random) {
+        pick.floats(&mut self.1)
+    }
+    fn make(&mut self) {
+        let (x, s) = (&self.1, &mut self.2);
+        let c = &mut self.0.channel;
+        let told = unsafe { port::loamscarf_synthesis_frame_at(c.config, &mut c.memory, x.as_ptr(), x.len(), s.as_mut_ptr(), s.len()) };
+        (self.0.number, self.0.index) = (told.number, told.index);
+    }
+    fn bits(&self) -> Vec<u32> {
+        assert_eq!(self.0.number, 0, "the port refuses lines in place");
+        bits(&self.2).collect()
+    }
+}
+
 /// lc3-codec's call.
 fn rust(call: &str, number: u8) -> Box<dyn Call> {
     let c = config(number);
@@ -191,19 +229,22 @@ fn rust(call: &str, number: u8) -> Box<dyn Call> {
     }
 }
 
-/// The port's call.
-fn ours(call: &str, number: u8) -> Box<dyn Call> {
+/// The port's call, the channel by value or in its place.
+fn ours(call: &str, number: u8, in_place: bool) -> Box<dyn Call> {
     let c = config(number);
-    match call {
-        "dct" => Box::new(PortDct(vec![0.0; c.nf], 0)),
-        "analysis" => Box::new(PortAnalysis(port::AnalysisFramed::silent(number), Frame::new(&c))),
-        _ => Box::new(PortSynthesis(port::SynthesisFramed::silent(number), vec![0.0; c.ne], vec![0.0; c.nf])),
+    let (analysis, synthesis) = (port::AnalysisFramed::silent(number), port::SynthesisFramed::silent(number));
+    match (call, in_place) {
+        ("dct", _) => Box::new(PortDct(vec![0.0; c.nf], 0)),
+        ("analysis", false) => Box::new(PortAnalysis(analysis, Frame::new(&c))),
+        ("analysis", true) => Box::new(PlaceAnalysis(analysis, Frame::new(&c))),
+        (_, false) => Box::new(PortSynthesis(synthesis, vec![0.0; c.ne], vec![0.0; c.nf])),
+        (_, true) => Box::new(PlaceSynthesis(synthesis, vec![0.0; c.ne], vec![0.0; c.nf])),
     }
 }
 
-/// Both sides on the same input, call after call on one channel.
-fn agree(call: &str, number: u8) -> bool {
-    let (mut left, mut right) = (ours(call, number), rust(call, number));
+/// A side of ours and lc3-codec's on the same input, call after call on one channel.
+fn agree(side: &str, call: &str, number: u8) -> bool {
+    let (mut left, mut right) = (chosen(side, call, number), rust(call, number));
     let (mut one, mut two) = (Random(number as u64), Random(number as u64));
     (0..ROUNDS).all(|_| {
         left.give(&mut one);
@@ -215,15 +256,16 @@ fn agree(call: &str, number: u8) -> bool {
 }
 
 fn check() {
-    for call in CALLS {
+    let sides = ["port", "place"];
+    for (side, call) in sides.iter().flat_map(|side| CALLS.map(|call| (side, call))) {
         for number in numbers() {
-            if !agree(call, number) {
-                println!("the bits differ: {call}, configuration {number}");
+            if !agree(side, call, number) {
+                println!("the bits differ: {side}, {call}, configuration {number}");
                 std::process::exit(1);
             }
         }
     }
-    println!("{}", ROUNDS * CALLS.len() * numbers().count());
+    println!("{}", ROUNDS * sides.len() * CALLS.len() * numbers().count());
 }
 
 /// A DCT is in place: its buffer stays zero here, since other values would grow from call to call. No count depends on values.
@@ -251,17 +293,17 @@ fn a_turn(made: &mut dyn Call) -> f64 {
 
 /// The shortest of each side's turns: what else the machine does only lengthens them.
 fn time(call: &str, number: u8) {
-    let mut sides = [ours(call, number), rust(call, number)];
+    let mut sides = SIDES.map(|side| chosen(side, call, number));
     if call != "dct" {
         sides.iter_mut().for_each(|side| side.give(&mut Random(1)));
     }
-    let mut best = [f64::INFINITY; 2];
+    let mut best = [f64::INFINITY; SIDES.len()];
     for _ in 0..TURNS {
         for (side, shortest) in sides.iter_mut().zip(&mut best) {
             *shortest = shortest.min(a_turn(&mut **side));
         }
     }
-    println!("{:.1} {:.1}", best[0], best[1]);
+    println!("{}", best.map(|shortest| format!("{shortest:.1}")).join(" "));
 }
 
 const PAINT: u64 = 0xA5C3_5A3C_96E1_1E69;
@@ -290,7 +332,7 @@ fn stack(side: String, call: String, number: u8) {
 }
 
 fn chosen(side: &str, call: &str, number: u8) -> Box<dyn Call> {
-    if side == "rust" { rust(call, number) } else { ours(call, number) }
+    if side == "rust" { rust(call, number) } else { ours(call, number, side == "place") }
 }
 
 pub fn main() -> io::Result<()> {

@@ -24,6 +24,12 @@ pub struct AnalysisFramed {
 }
 
 #[repr(C)]
+pub struct AnalysisTold {
+    pub number: u8,
+    pub flag: bool,
+}
+
+#[repr(C)]
 #[derive(Clone, Copy)]
 pub struct SynthesisChannel {
     pub config: u8,
@@ -49,7 +55,7 @@ impl SynthesisFramed {
     }
 }
 
-// A slice crosses as a pointer and a length.
+// A slice crosses as a pointer and a length, and a channel's own array as a pointer.
 extern "C" {
     pub fn loamscarf_dct_iv(length: usize, buf: *mut f32, buf_length: usize) -> Verdict;
     pub fn loamscarf_analysis_frame(
@@ -61,6 +67,16 @@ extern "C" {
         energies: *mut f32,
         energies_length: usize,
     ) -> AnalysisFramed;
+    pub fn loamscarf_analysis_frame_at(
+        config: u8,
+        channel_samples: *mut [i16; ROOM],
+        input: *const i16,
+        input_length: usize,
+        lines: *mut f32,
+        lines_length: usize,
+        energies: *mut f32,
+        energies_length: usize,
+    ) -> AnalysisTold;
     pub fn loamscarf_synthesis_frame(
         channel: SynthesisChannel,
         lines: *const f32,
@@ -68,4 +84,12 @@ extern "C" {
         samples: *mut f32,
         samples_length: usize,
     ) -> SynthesisFramed;
+    pub fn loamscarf_synthesis_frame_at(
+        config: u8,
+        memory: *mut [f32; ROOM],
+        lines: *const f32,
+        lines_length: usize,
+        samples: *mut f32,
+        samples_length: usize,
+    ) -> Verdict;
 }
