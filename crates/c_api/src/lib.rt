@@ -50,17 +50,23 @@ pub extern "C" fn loamscarf_analysis_clear(config: u8) -> analysis::Cleared
     analysis::clear(config)
 }
 
-// Entry. A frame of samples to lines, energies and the flag.
+// Entry. A frame of samples to lines, energies and the flag. Through `Channel::frame` the compiler would copy the channel once more.
 #[no_mangle]
 pub extern "C" fn loamscarf_analysis_frame(
-    channel: analysis::Channel,
+    mut channel: analysis::Channel,
     input: &[i16],
     lines: &mut [f32],
     energies: &mut [f32],
 ) -> analysis::Framed
     ensures { λ r. ⌜ an.frames channel (an.lent (now (input .entry)) (now (lines .entry)) (now (energies .entry))) ≡ an.outcome r (now (lines .exit)) (now (energies .exit)) ⌝ }
 {
-    channel.frame(input, lines, energies)
+    let config = channel.config;
+    let told = analysis::frame_at(config, &mut channel.samples, input, lines, energies);
+    analysis::Framed {
+        number: told.number,
+        flag: told.flag,
+        channel,
+    }
 }
 
 // Entry. The same on a channel that stays in the caller's memory, of which it gets the configuration and the samples: nothing of it is copied.
