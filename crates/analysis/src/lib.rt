@@ -1,6 +1,6 @@
-// The analysis channel: its samples, `clear` and `frame`.
+// The analysis channel: its samples, `clear`, and a frame by value and in place.
 // Ported from src/encoder/modified_dct.rs of lc3-codec 0.2.0, and changed: a configuration number picks the tables, the channel goes in by value
-// and comes back, the time buffer is the frame's own, and a call with wrong lengths is refused.
+// and comes back, or lends its array, the time buffer is the frame's own, and a call with wrong lengths is refused.
 ghost use mathlib.Core.Path.{_≡_};
 ghost use lib.Dec.{T};
 ghost use lib.ListN.{length};

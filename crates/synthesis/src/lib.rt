@@ -1,6 +1,6 @@
-// The synthesis channel: its memory, `clear` and `frame`.
+// The synthesis channel: its memory, `clear`, and a frame by value and in place.
 // Ported from src/decoder/modified_dct.rs of lc3-codec 0.2.0, and changed: a configuration number picks the tables, the channel goes in by value
-// and comes back, the work areas are the frame's own, and a call with wrong lengths or lines is refused.
+// and comes back, or lends its array, the work areas are the frame's own, and a call with wrong lengths or lines is refused.
 ghost use mathlib.Core.Path.{_≡_};
 ghost use lib.ListN.{length, replicate};
 ghost use Rattle.laws.specs.Numbers.{zero32};
