@@ -1,6 +1,6 @@
-//! The bench's driver: calls of lc3-codec's code and of the port's static library, side by side. It is built twice, on lc3-codec's own files and
+//! The bench's driver: calls of lc3-codec's code and of the port's static library, beside one another. It is built twice, on lc3-codec's own files and
 //! on their copy with the short frames, and knows the configurations of those that it is built on.
-//!   check                     compares the bits of both on random input, and prints how many calls agree
+//!   check                     compares the bits of ours, both ways, with lc3-codec's, and prints how many calls agree
 //!   count SIDE CALL CONFIG N  makes N calls and prints nothing: its instructions are what is counted
 //!   time CALL CONFIG          times all sides alternately, and prints the shortest time of a call of each, in nanoseconds, in the order below
 //!   stack SIDE CALL CONFIG    prints how many bytes of stack a call touches, a channel handed in by value included
@@ -17,7 +17,7 @@ use std::io;
 use std::time::Instant;
 
 const ROUNDS: usize = 50;
-const CALLS: [&str; 3] = ["dct", "analysis", "synthesis"];
+const NONE: u8 = 255;
 const SIDES: [&str; 3] = ["port", "place", "rust"];
 
 fn numbers() -> impl Iterator<Item = u8> {
@@ -47,9 +47,14 @@ impl Random {
         (self.0 >> 33) as u32
     }
 
+    /// Noise of any loudness; one time in sixteen the highest tone that there is, which sets the flag.
     fn samples(&mut self, into: &mut [i16]) {
-        let shift = self.next() % 15;
-        into.iter_mut().for_each(|x| *x = self.next() as i16 >> shift);
+        let shift = self.next() % 16;
+        if shift == 15 {
+            into.iter_mut().enumerate().for_each(|(k, x)| *x = if k % 2 == 0 { 9000 } else { -9000 });
+        } else {
+            into.iter_mut().for_each(|x| *x = self.next() as i16 >> shift);
+        }
     }
 
     fn floats(&mut self, into: &mut [f32]) {
@@ -255,9 +260,20 @@ fn agree(side: &str, call: &str, number: u8) -> bool {
     })
 }
 
+/// Whether a frame in place on a channel of no configuration is refused by number, and changes nothing that it is lent.
+fn refuses() -> bool {
+    let (x, mut samples, mut lines, mut energies) = ([1i16; 20], [7i16; port::ROOM], [3f32; 20], [5f32; 20]);
+    let told = unsafe { port::loamscarf_analysis_frame_at(NONE, &mut samples, x.as_ptr(), 20, lines.as_mut_ptr(), 20, energies.as_mut_ptr(), 20) };
+    let analysis = (told.number, told.flag) == (1, false) && samples == [7; port::ROOM] && lines == [3.0; 20] && energies == [5.0; 20];
+    let (mut memory, mut out) = ([7f32; port::ROOM], [3f32; 20]);
+    let told = unsafe { port::loamscarf_synthesis_frame_at(NONE, &mut memory, lines.as_ptr(), 20, out.as_mut_ptr(), 20) };
+    analysis && (told.number, told.index) == (1, 0) && memory == [7.0; port::ROOM] && out == [3.0; 20]
+}
+
+/// A DCT has no channel, and is the same call on both of our sides.
 fn check() {
-    let sides = ["port", "place"];
-    for (side, call) in sides.iter().flat_map(|side| CALLS.map(|call| (side, call))) {
+    let compared = [("port", "dct"), ("port", "analysis"), ("port", "synthesis"), ("place", "analysis"), ("place", "synthesis")];
+    for (side, call) in compared {
         for number in numbers() {
             if !agree(side, call, number) {
                 println!("the bits differ: {side}, {call}, configuration {number}");
@@ -265,7 +281,11 @@ fn check() {
             }
         }
     }
-    println!("{}", ROUNDS * sides.len() * CALLS.len() * numbers().count());
+    if !refuses() {
+        println!("a frame in place that is refused changes something, or tells another number");
+        std::process::exit(1);
+    }
+    println!("{}", ROUNDS * compared.len() * numbers().count());
 }
 
 /// A DCT is in place: its buffer stays zero here, since other values would grow from call to call. No count depends on values.

@@ -1,7 +1,7 @@
 //! The port's entries for C, as its static library has them. Nothing checks these lines against crates/c_api: keep them beside it.
 
 /// How many places a channel's array has.
-const ROOM: usize = 300;
+pub const ROOM: usize = 300;
 
 #[repr(C)]
 pub struct Verdict {

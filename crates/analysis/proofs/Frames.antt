@@ -68,11 +68,10 @@ unfolding frames
 by-number ch x n e = ap (λ (k : ℕ). framed k ch x) (sym e)
 
 -- an accepted call
-pub made : (c : ℕ) (past x : List ℤ) (f : Bool) (l e : List Float) (s : List ℤ) (ch : Channel)
-    → l ≡ linesOf c past x → e ≡ energiesOf c l → f ≡ flagOf c (energiesOf c l) → s ≡ keptOf c past x → ch ≡ channelOf c s
-    → _≡_ {A = Given × Channel} (record { number = 0; flag = f; lines = l; energies = e }, ch) (accepted c past x)
-made c past x f l e s ch p q r t u =
+pub made : (c : ℕ) (past x : List ℤ) (f : Bool) (l e : List Float) (s : List ℤ)
+    → l ≡ linesOf c past x → e ≡ energiesOf c l → f ≡ flagOf c (energiesOf c l) → s ≡ keptOf c past x
+    → _≡_ {A = Given × Channel} (record { number = 0; flag = f; lines = l; energies = e }, channelOf c s) (accepted c past x)
+made c past x f l e s p q r t =
     let q' : e ≡ energiesOf c (linesOf c past x) = q ∙ ap (energiesOf c) p in
     let r' : f ≡ flagOf c (energiesOf c (linesOf c past x)) = r ∙ ap (λ (m : List Float). flagOf c (energiesOf c m)) p in
-    let u' : ch ≡ channelOf c (keptOf c past x) = u ∙ ap (channelOf c) t in
-    λ i. (record { number = 0; flag = r' i; lines = p i; energies = q' i }, u' i)
+    λ i. (record { number = 0; flag = r' i; lines = p i; energies = q' i }, channelOf c (t i))

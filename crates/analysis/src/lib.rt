@@ -121,13 +121,7 @@ fn number(c: u8, input: &[i16], lines: &[f32], energies: &[f32]) -> u8
 }
 
 // The step of a call that is not refused. The samples, of 300 places, come as a slice: the checker follows no part of an array behind a reference.
-fn step_slice(
-    c: u8,
-    samples: &mut [i16],
-    input: &[i16],
-    lines: &mut [f32],
-    energies: &mut [f32],
-) -> Told
+fn step(c: u8, samples: &mut [i16], input: &[i16], lines: &mut [f32], energies: &mut [f32]) -> Told
     requires { ⌜ T (valid c) × (length (now input) ≡ nf c) × (length (now lines) ≡ nf c) × (length (now energies) ≡ nb c) × (length (now samples) ≡ 300) ⌝ }
     ensures { λ r. ⌜ accepted c (held (channelOf c (now (samples .entry)))) (now (input .entry)) ≡ outcomeAt c r (now (samples .exit)) (now (lines .exit)) (now (energies .exit)) ⌝ }
 {
@@ -137,20 +131,6 @@ fn step_slice(
     let flag = measured(c, lines, energies);
     analysis_steps::keep(input, z, samples);
     Told { number: 0, flag }
-}
-
-// The same on the samples where the channel has them.
-fn step(
-    c: u8,
-    samples: &mut [i16; 300],
-    input: &[i16],
-    lines: &mut [f32],
-    energies: &mut [f32],
-) -> Told
-    requires { ⌜ T (valid c) × (length (now input) ≡ nf c) × (length (now lines) ≡ nf c) × (length (now energies) ≡ nb c) ⌝ }
-    ensures { λ r. ⌜ accepted c (held (channelOf c (now (samples .entry)))) (now (input .entry)) ≡ outcomeAt c r (now (samples .exit)) (now (lines .exit)) (now (energies .exit)) ⌝ }
-{
-    step_slice(c, samples, input, lines, energies)
 }
 
 // Entry. A frame of samples to its lines, its energies and the flag, on a channel that stays where it is: its configuration, and its samples, lent.

@@ -104,7 +104,7 @@ fn refusal(c: u8, lines: &[f32], samples: &[f32]) -> Verdict
 }
 
 // The step of a call that is not refused. The memory, of 300 places, comes as a slice: the checker follows no part of an array behind a reference.
-fn step_slice(config: u8, lines: &[f32], memory: &mut [f32], samples: &mut [f32])
+fn step(config: u8, lines: &[f32], memory: &mut [f32], samples: &mut [f32])
     requires { ⌜ (number config (lent (now lines) (now samples)) ≡ 0) × (length (now memory) ≡ 300) ⌝ }
     ensures memory { λ _. ⌜ now (memory .exit) ≡ keptOf config (now (lines .entry)) ⌝ }
     ensures samples { λ _. ⌜ now (samples .exit) ≡ samplesOf config (held (channelOf config (now (memory .entry)))) (now (lines .entry)) ⌝ }
@@ -112,15 +112,6 @@ fn step_slice(config: u8, lines: &[f32], memory: &mut [f32], samples: &mut [f32]
     let keep = samples.len() - config::z(config);
     synthesis_samples::samples_of(config, lines, &mut memory[..keep], samples);
     synthesis_steps::zeros(&mut memory[keep..]);
-}
-
-// The same on the memory where the channel has it.
-fn step(config: u8, lines: &[f32], memory: &mut [f32; 300], samples: &mut [f32])
-    requires { ⌜ number config (lent (now lines) (now samples)) ≡ 0 ⌝ }
-    ensures memory { λ _. ⌜ now (memory .exit) ≡ keptOf config (now (lines .entry)) ⌝ }
-    ensures samples { λ _. ⌜ now (samples .exit) ≡ samplesOf config (held (channelOf config (now (memory .entry)))) (now (lines .entry)) ⌝ }
-{
-    step_slice(config, lines, memory, samples);
 }
 
 // Entry. A frame of lines to its samples, on a channel that stays where it is: its configuration, and its memory, lent. A refusal writes nothing.

@@ -82,9 +82,9 @@ fn second_quarter(v: &[f32], w: &[u32], h: usize, past: &[f32], out: &mut [f32])
     }
 }
 
-// Places within the middle half, from `from` on, with no past: the values backwards and negated.
-fn middle_half(v: &[f32], w: &[u32], h: usize, from: usize, out: &mut [f32])
-    requires { ⌜ (h ≤ 240) × (length (now v) ≡ 2 * h) × (length (now w) ≡ 4 * h) × Numbers (now w) × (h ≤ from) × (from + length (now out) ≤ 3 * h) ⌝ }
+// Places within the third quarter, from `from` on, with no past: the first half of the values, backwards and negated.
+fn third_quarter(v: &[f32], w: &[u32], h: usize, from: usize, out: &mut [f32])
+    requires { ⌜ (h ≤ 240) × (length (now v) ≡ 2 * h) × (length (now w) ≡ 4 * h) × Numbers (now w) × (2 * h ≤ from) × (from + length (now out) ≤ 3 * h) ⌝ }
     ensures { λ _. ⌜ now (out .exit) ≡ take (length (now (out .entry))) (drop from (windowed (now (w .entry)) (unfolded h (now (v .entry))))) ⌝ }
 {
     let v_end = 3 * h - from;
@@ -124,7 +124,7 @@ pub fn remaining(v: &[f32], w: &[u32], memory: &mut [f32], z: usize, h: usize)
     ensures { λ _. ⌜ now (memory .exit) ≡ remains (2 * h) z (windowed (now (w .entry)) (unfolded h (now (v .entry)))) ⌝ }
 {
     let seam = h - z;
-    middle_half(v, w, h, 2 * h + z, &mut memory[..seam]);
+    third_quarter(v, w, h, 2 * h + z, &mut memory[..seam]);
     last_quarter(v, w, h, &mut memory[seam..]);
 }
 
@@ -144,6 +144,6 @@ pub fn overlap_add(
 {
     let end = 2 * h - z;
     overlapped(v, w, memory, &mut samples[..end], z, h);
-    middle_half(v, w, h, 2 * h, &mut samples[end..]);
+    third_quarter(v, w, h, 2 * h, &mut samples[end..]);
     remaining(v, w, memory, z, h);
 }

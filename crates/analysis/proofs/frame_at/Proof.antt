@@ -16,7 +16,8 @@ returns c =
 step-requires : tie.Need-step-requires
 step-requires c κs =
     let a = c .before .before .before .before .before .before .before .before .before .args in
-    passed (a .config) (lent (a .input .now) (a .lines .now) (a .energies .now)) (sym (c .before .before .before .before .number .ensures) ∙ c .before .before .before .if1 .left)
+    let p = passed (a .config) (lent (a .input .now) (a .lines .now) (a .energies .now)) (sym (c .before .before .before .before .number .ensures) ∙ c .before .before .before .if1 .left) in
+    (p .0, p .1, p .2, p .3, search needs)
 
 returns-2 : tie.Need-returns-2
 returns-2 c =

@@ -16,8 +16,8 @@ overlapped-requires c κs =
     let p = c .before .before .before .before .before .before .pre in
     (p .0, p .1, p .2, p .3, p .4, p .5, length-take-le (2 * a .h - a .z) (a .samples .now) (omega arith))
 
-middle-half-requires : tie.Need-middle-half-requires
-middle-half-requires c κs =
+third-quarter-requires : tie.Need-third-quarter-requires
+third-quarter-requires c κs =
     let p = c .before .before .before .before .before .before .before .before .before .before .pre in
     (p .0, p .2, p .3, p .4, omega (arith, p), omega (arith, p))
 
@@ -29,7 +29,7 @@ returns c =
     let n = length-places (a .h) (a .v .now) (a .w .now) (p .2) (p .3) in
     let b : a .z ≤ 2 * a .h = omega (arith, p .1) in
     let e : length t ≡ 2 * (2 * a .h) = omega (arith, n) in
-    (made-output (2 * a .h) (a .z) t b e (a .memory .now) (p .5) (a .samples .now) (p .6) (c .before .before .before .before .before .before .before .before .before .before .overlapped .ensures) (c .before .before .before .before .before .before .middle-half .ensures), c .before .before .remaining .ensures)
+    (made-output (2 * a .h) (a .z) t b e (a .memory .now) (p .5) (a .samples .now) (p .6) (c .before .before .before .before .before .before .before .before .before .before .overlapped .ensures) (c .before .before .before .before .before .before .third-quarter .ensures), c .before .before .remaining .ensures)
 
 -- the needs without a name, for any answer: a wrong one hides none of them
 safe : tie.Need-returns → {M : Type 1} → statement M
@@ -46,7 +46,7 @@ safe returns =
     (λ c. search needs)
     (λ c. search needs)
     (λ c. search needs)
-    middle-half-requires
+    third-quarter-requires
     (λ c κs. search needs)
     (λ c. search needs)
     (λ c. search needs)

@@ -1,4 +1,4 @@
--- `synthesis_steps::middle_half` meets its contract. The invariant: the places passed hold the frame's, and the others are as they were. Assumes nothing.
+-- `synthesis_steps::third_quarter` meets its contract. The invariant: the places passed hold the frame's, and the others are as they were. Assumes nothing.
 use Prim.Native.Nat.{_+_, _-_}
 use native.Mathlib.Omega.{arith}
 use lib.ListN.{length}
@@ -6,8 +6,8 @@ use borrow.Author.Needs.{needs}
 use Rattle.laws.proofs.Lists.{filled-none}
 use Rattle.synthesis_steps.proofs.Mirrors.{place-middle}
 use Rattle.synthesis_steps.proofs.Unfold.{Placed, one-more, all-placed}
-use Rattle.synthesis_steps.proofs.middle_half.Statement.{statement}
-use Rattle.synthesis_steps.proofs.middle_half.Tie as tie
+use Rattle.synthesis_steps.proofs.third_quarter.Statement.{statement}
+use Rattle.synthesis_steps.proofs.third_quarter.Tie as tie
 
 abbrev Inv-loop : tie.InvT-loop
 Inv-loop v w h from out₀ v-end w-end i₀ out i = Placed h v w from out₀ i out
@@ -63,5 +63,5 @@ safe loop-holds loop-again returns =
     (λ c. search needs)
     returns)
 
-pub middle-half-spec : {M : Type 1} → statement M
-middle-half-spec = safe loop-holds loop-again returns
+pub third-quarter-spec : {M : Type 1} → statement M
+third-quarter-spec = safe loop-holds loop-again returns

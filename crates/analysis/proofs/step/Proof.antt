@@ -1,5 +1,5 @@
--- `step_slice` meets its contract: what the steps ensure of the past and the frame is the definition's accepted call. Assumes nothing.
-use mathlib.Core.Path.{_≡_, refl, sym, ap, _∙_}
+-- `step` meets its contract: what the steps ensure of the past and the frame is the definition's accepted call. Assumes nothing.
+use mathlib.Core.Path.{_≡_, sym, ap, _∙_}
 use mathlib.Core.List.{List, _++_}
 use Prim.Native.Nat.{ℕ, _-_}
 use native.Mathlib.Omega.{arith}
@@ -13,8 +13,8 @@ use Rattle.analysis_lines.specs.Lines.{linesOf}
 use Rattle.analysis.specs.Analysis.{channelOf, held}
 use Rattle.analysis.proofs.Made.{keeps, made-kept}
 use Rattle.analysis.proofs.Frames.{made}
-use Rattle.analysis.proofs.step_slice.Statement.{statement}
-use Rattle.analysis.proofs.step_slice.Tie as tie
+use Rattle.analysis.proofs.step.Statement.{statement}
+use Rattle.analysis.proofs.step.Tie as tie
 
 sub-keep : tie.Need-sub-keep
 sub-keep c = let st = c .before .before .before in keeps (st .args .c) (st .pre .0) (st .pre .1) (c .z .ensures) .0
@@ -51,12 +51,11 @@ returns c =
     let past-is : take (nf n - z n) l ≡ past = take-tab (nf n - z n) l (pos 0) (omega (arith, k, st .pre .4)) in
     let q = c .before .before .before .before .before .before .before .before .before .before .before .before .before .z .result in
     sym
-    (made n past x _ _ _ _ _
+    (made n past x _ _ _ _
     (c .before .before .before .before .before .before .before .before .before .before .lines-of .ensures ∙ ap (λ (m : ℕ). linesOf n (take m l) x) (k .2) ∙ ap (λ (p : List ℤ). linesOf n p x) past-is)
     (c .before .before .before .before .before .measured .ensures .0)
     (c .before .before .before .before .before .measured .ensures .1)
-    (made-kept n past x (st .pre .0) (length-tab (nf n - z n) (λ m. getD l m (pos 0))) (st .pre .1) q _ (c .before .before .before .before .before .before .before .before .before .before .before .before .before .z .ensures) (c .before .keep .ensures ∙ ap (λ (m : ℕ). drop q x ++ replicate (m - length (drop q x)) (pos 0)) (st .pre .4)))
-    refl)
+    (made-kept n past x (st .pre .0) (length-tab (nf n - z n) (λ m. getD l m (pos 0))) (st .pre .1) q _ (c .before .before .before .before .before .before .before .before .before .before .before .before .before .z .ensures) (c .before .keep .ensures ∙ ap (λ (m : ℕ). drop q x ++ replicate (m - length (drop q x)) (pos 0)) (st .pre .4))))
 
 -- the needs without a name, for any answer: a wrong one hides none of them
 safe : tie.Need-returns → {M : Type 1} → statement M
@@ -75,5 +74,5 @@ safe returns =
     (λ c. search needs)
     returns)
 
-pub step-slice-spec : {M : Type 1} → statement M
-step-slice-spec = safe returns
+pub step-spec : {M : Type 1} → statement M
+step-spec = safe returns

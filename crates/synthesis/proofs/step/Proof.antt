@@ -1,4 +1,4 @@
--- `synthesis::step_slice` meets its contract: the first part of the memory is the frame's, the rest zeros. Assumes nothing.
+-- `synthesis::step` meets its contract: the first part of the memory is the frame's, the rest zeros. Assumes nothing.
 use mathlib.Core.Path.{_≡_, sym, ap, _∙_}
 use mathlib.Core.List.{List, _++_}
 use Prim.Native.Nat.{ℕ, _-_, _≤_}
@@ -15,8 +15,8 @@ use Rattle.synthesis_samples.specs.Samples.{samplesOf}
 use Rattle.synthesis.specs.Synthesis.{lent, channelOf, held}
 use Rattle.synthesis.proofs.Frames.{passed}
 use Rattle.synthesis.proofs.Made.{keeps, made-kept}
-use Rattle.synthesis.proofs.step_slice.Statement.{statement}
-use Rattle.synthesis.proofs.step_slice.Tie as tie
+use Rattle.synthesis.proofs.step.Statement.{statement}
+use Rattle.synthesis.proofs.step.Tie as tie
 
 -- how many places of the memory are kept
 abbrev keep : tie.After-z → ℕ
@@ -92,5 +92,5 @@ safe returns =
     (λ c. search needs)
     returns)
 
-pub step-slice-spec : {M : Type 1} → statement M
-step-slice-spec = safe returns
+pub step-spec : {M : Type 1} → statement M
+step-spec = safe returns
