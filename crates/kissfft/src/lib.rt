@@ -3,7 +3,7 @@
 // transform itself is a crate below this one.
 ghost use mathlib.Core.Path.{_≡_};
 ghost use mathlib.Core.List.{_++_, map};
-ghost use Prim.Native.Nat.{_≤_};
+ghost use Prim.Native.Nat.{_≤_, _<_};
 ghost use lib.Dec.{T};
 ghost use lib.Ieee.{neg};
 ghost use lib.ListN.{length, take, drop};
@@ -139,6 +139,22 @@ fn directed(
     turn(re, im, x, y, t, factors, inverse);
 }
 
+// The transform of more than 40 numbers, with the table and the plan of its size. It stands apart so that neither match has all the tables: that takes a check more than 2 GB.
+fn run_large(re: &mut [f32], im: &mut [f32], x: &[f32], y: &[f32], inverse: bool)
+    requires { ⌜ T (among fftSizes (length (now x))) × (length (now y) ≡ length (now x)) × (length (now re) ≡ length (now x)) × (length (now im) ≡ length (now x)) × (40 < length (now x)) ⌝ }
+    ensures { λ _. ⌜ (now (re .exit) ≡ reals (length (now (x .entry))) (spectrum (twiddle (length (now (x .entry))) inverse) inverse (length (now (x .entry))) (at (now (x .entry)) (now (y .entry))))) × (now (im .exit) ≡ imaginaries (length (now (x .entry))) (spectrum (twiddle (length (now (x .entry))) inverse) inverse (length (now (x .entry))) (at (now (x .entry)) (now (y .entry))))) ⌝ }
+{
+    match x.len() {
+        60 => directed(re, im, x, y, &mut fft_60(), &plan_60(), inverse),
+        80 => directed(re, im, x, y, &mut fft_80(), &plan_80(), inverse),
+        90 => directed(re, im, x, y, &mut fft_90(), &plan_90(), inverse),
+        120 => directed(re, im, x, y, &mut fft_120(), &plan_120(), inverse),
+        160 => directed(re, im, x, y, &mut fft_160(), &plan_160(), inverse),
+        180 => directed(re, im, x, y, &mut fft_180(), &plan_180(), inverse),
+        _ => directed(re, im, x, y, &mut fft_240(), &plan_240(), inverse),
+    }
+}
+
 // The transform with the table and the plan of its size.
 fn run(re: &mut [f32], im: &mut [f32], x: &[f32], y: &[f32], inverse: bool)
     requires { ⌜ T (among fftSizes (length (now x))) × (length (now y) ≡ length (now x)) × (length (now re) ≡ length (now x)) × (length (now im) ≡ length (now x)) ⌝ }
@@ -149,13 +165,7 @@ fn run(re: &mut [f32], im: &mut [f32], x: &[f32], y: &[f32], inverse: bool)
         20 => directed(re, im, x, y, &mut fft_20(), &plan_20(), inverse),
         30 => directed(re, im, x, y, &mut fft_30(), &plan_30(), inverse),
         40 => directed(re, im, x, y, &mut fft_40(), &plan_40(), inverse),
-        60 => directed(re, im, x, y, &mut fft_60(), &plan_60(), inverse),
-        80 => directed(re, im, x, y, &mut fft_80(), &plan_80(), inverse),
-        90 => directed(re, im, x, y, &mut fft_90(), &plan_90(), inverse),
-        120 => directed(re, im, x, y, &mut fft_120(), &plan_120(), inverse),
-        160 => directed(re, im, x, y, &mut fft_160(), &plan_160(), inverse),
-        180 => directed(re, im, x, y, &mut fft_180(), &plan_180(), inverse),
-        _ => directed(re, im, x, y, &mut fft_240(), &plan_240(), inverse),
+        _ => run_large(re, im, x, y, inverse),
     }
 }
 
