@@ -7,10 +7,10 @@ use Prim.Native.Nat.{ℕ, suc, _+_, _<_}
 use native.Mathlib.Numerals.{add-one}
 use native.Mathlib.Decide.{ℕ-discrete}
 use native.Mathlib.Omega.{arith}
-use lib.Dec.{T, eqb, eqb→eq}
+use lib.Dec.{T, eqb, leb, ltb, eqb→eq, ltb→lt}
 use lib.ListN.{length, getD, drop}
 use lib.Seq.{drop-cons}
-use borrow.Author.Tests.{eq-eqb, ne-eqb}
+use borrow.Author.Tests.{eq-eqb, ne-eqb, lt-leb}
 use Rattle.laws.proofs.Table.{every, at}
 use Rattle.laws.proofs.Arms.{Outside, outside-besides}
 use Rattle.config.specs.Config.{among}
@@ -43,14 +43,19 @@ pub same-among : (ms ns : List ℕ) → T (every (λ k n. among ns n) 0 ms) → 
 same-among ms ns t u n = same (among ms n) (among ns n) (at-among (among ns) ms t n) (at-among (among ms) ns u n)
 
 -- what the last arm knows of a number that is one of a list's: it passes a test that every number of the list passes but those of the arms before it
-pub past-among : (f : ℕ → Bool) (ns ms : List ℕ) → T (every (λ k n. among ms n || f n) 0 ns) → (n : ℕ) → T (among ns n) → Outside ms n Unit → T (f n)
+past-among : (f : ℕ → Bool) (ns ms : List ℕ) → T (every (λ k n. among ms n || f n) 0 ns) → (n : ℕ) → T (among ns n) → Outside ms n Unit → T (f n)
 past-among f ns ms t n a o =
     let u : T (among ms n || f n) = at-among (λ n. among ms n || f n) ns t n a in
     rw (outside-among ms n Unit o) at u
 
--- as where the arms before it are all the others
-pub last-among : (ns ms : List ℕ) (last : ℕ) → T (every (λ k n. among ms n || eqb last n) 0 ns) → (n : ℕ) → T (among ns n) → Outside ms n Unit → n ≡ last
-last-among ns ms last t n a o = sym (eqb→eq last n (past-among (eqb last) ns ms t n a o))
+-- as where the arms before it are those of the small numbers, up to b; and where they are those of the large ones but the last
+pub past-small : (ns ms : List ℕ) (b : ℕ) → T (every (λ k n. among ms n || ltb b n) 0 ns) → (n : ℕ) → T (among ns n) → Outside ms n Unit → b < n
+past-small ns ms b t n a o = ltb→lt b n (past-among (ltb b) ns ms t n a o)
+
+pub past-large : (ns ms : List ℕ) (b last : ℕ) → T (every (λ k n. among ms n || (leb n b || eqb last n)) 0 ns) → (n : ℕ) → T (among ns n) → b < n → Outside ms n Unit → n ≡ last
+past-large ns ms b last t n a l o =
+    let u : T (leb n b || eqb last n) = past-among (λ n. leb n b || eqb last n) ns ms t n a o in
+    sym (eqb→eq last n (rw (lt-leb n b l) at u))
 
 -- a search that has come to place k finds the number there, or goes on
 pub among-here : (l : List ℕ) (k n : ℕ) → k < length l → getD l k 0 ≡ n → among (drop k l) n ≡ true

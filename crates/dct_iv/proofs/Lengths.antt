@@ -5,18 +5,18 @@ use mathlib.Core.Bool.{Bool, true, false, _&&_, _||_}
 use mathlib.Core.List.{List, [], _∷_}
 use Prim.Native.Nat.{ℕ, _*_, _/_, _<_, _≤_}
 use native.Mathlib.Omega.{arith}
-use lib.Dec.{T, eqb, leb, ltb, eqb→eq, ltb→lt}
+use lib.Dec.{T, eqb, leb, ltb, eqb→eq}
 use lib.Ieee.{Float}
 use lib.Ieee.Fits.{and-l}
 use lib.ListN.{length}
-use borrow.Author.Tests.{eq-eqb, ne-eqb, lt-ltb, le-ltb, lt-leb}
+use borrow.Author.Tests.{eq-eqb, ne-eqb, lt-ltb, le-ltb}
 use Rattle.laws.specs.Lists.{first}
 use Rattle.laws.specs.Passes.{passes6}
 use Rattle.laws.proofs.Table.{every}
 use Rattle.laws.proofs.Arms.{Outside}
 use Rattle.config.specs.Tables.{rows}
 use Rattle.config.specs.Config.{row, half, among, fftSizes, dctLengths}
-use Rattle.config.proofs.Among.{at-among, past-among}
+use Rattle.config.proofs.Among.{at-among, past-small, past-large}
 use Rattle.config.proofs.Verdicts.{passed}
 use Rattle.config.specs.declared.Verdict.{Verdict}
 use Rattle.dct_steps.specs.Dct.{dctIv}
@@ -43,21 +43,19 @@ small = 20 ∷ 40 ∷ 60 ∷ 80 ∷ []
 abbrev large : List ℕ
 large = 120 ∷ 160 ∷ 180 ∷ 240 ∷ 320 ∷ 360 ∷ []
 
-past-small : T (every (λ k n. among small n || ltb 80 n) 0 dctLengths)
+small-first : T (every (λ k n. among small n || ltb 80 n) 0 dctLengths)
 unfolding dctLengths row rows
-past-small = tt
+small-first = tt
 
-past-large : T (every (λ k n. among large n || (leb n 80 || eqb 480 n)) 0 dctLengths)
+large-first : T (every (λ k n. among large n || (leb n 80 || eqb 480 n)) 0 dctLengths)
 unfolding dctLengths row rows
-past-large = tt
+large-first = tt
 
 pub is-large : (n : ℕ) → T (among dctLengths n) → Outside small n Unit → 80 < n
-is-large n s o = ltb→lt 80 n (past-among (ltb 80) dctLengths small past-small n s o)
+is-large = past-small dctLengths small 80 small-first
 
 pub is-longest : (n : ℕ) → T (among dctLengths n) → 80 < n → Outside large n Unit → n ≡ 480
-is-longest n s l o =
-    let t : T (leb n 80 || eqb 480 n) = past-among (λ n. leb n 80 || eqb 480 n) dctLengths large past-large n s o in
-    sym (eqb→eq 480 n (rw (lt-leb n 80 l) at t))
+is-longest = past-large dctLengths large 80 480 large-first
 
 module _ (n : ℕ) (buf : List Float) where
   abbrev says : ℕ → ℕ → Type 0

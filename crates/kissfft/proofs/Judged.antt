@@ -4,17 +4,17 @@ use mathlib.Core.Bool.{Bool, true, false, _&&_, _||_}
 use mathlib.Core.List.{List, [], _∷_}
 use Prim.Native.Nat.{ℕ, _<_, _≤_}
 use native.Mathlib.Omega.{arith}
-use lib.Dec.{T, eqb, leb, ltb, eqb→eq, ltb→lt}
+use lib.Dec.{T, eqb, leb, ltb}
 use lib.Ieee.{Float}
 use lib.ListN.{length}
-use borrow.Author.Tests.{eq-eqb, ne-eqb, lt-ltb, le-ltb, lt-leb}
+use borrow.Author.Tests.{eq-eqb, ne-eqb, lt-ltb, le-ltb}
 use Rattle.laws.proofs.Table.{every}
 use Rattle.laws.proofs.Arms.{Outside}
 use Rattle.complex.specs.Complex.{at}
 use Rattle.config.specs.declared.Verdict.{Verdict}
 use Rattle.config.specs.Tables.{rows}
 use Rattle.config.specs.Config.{row, half, among, fftSizes}
-use Rattle.config.proofs.Among.{past-among}
+use Rattle.config.proofs.Among.{past-small, past-large}
 use Rattle.config.proofs.Verdicts.{passed, both-are}
 use Rattle.twiddles.specs.Twiddles.{twiddle}
 use Rattle.kf_work.specs.Work.{spectrum, reals, imaginaries}
@@ -27,21 +27,19 @@ small = 10 ∷ 20 ∷ 30 ∷ 40 ∷ []
 abbrev large : List ℕ
 large = 60 ∷ 80 ∷ 90 ∷ 120 ∷ 160 ∷ 180 ∷ []
 
-past-small : T (every (λ k n. among small n || ltb 40 n) 0 fftSizes)
+small-first : T (every (λ k n. among small n || ltb 40 n) 0 fftSizes)
 unfolding fftSizes half row rows
-past-small = tt
+small-first = tt
 
-past-large : T (every (λ k n. among large n || (leb n 40 || eqb 240 n)) 0 fftSizes)
+large-first : T (every (λ k n. among large n || (leb n 40 || eqb 240 n)) 0 fftSizes)
 unfolding fftSizes half row rows
-past-large = tt
+large-first = tt
 
 pub is-large : (n : ℕ) → T (among fftSizes n) → Outside small n Unit → 40 < n
-is-large n s o = ltb→lt 40 n (past-among (ltb 40) fftSizes small past-small n s o)
+is-large = past-small fftSizes small 40 small-first
 
 pub last-size : (n : ℕ) → T (among fftSizes n) → 40 < n → Outside large n Unit → n ≡ 240
-last-size n s l o =
-    let t : T (leb n 40 || eqb 240 n) = past-among (λ n. leb n 40 || eqb 240 n) fftSizes large past-large n s o in
-    sym (eqb→eq 240 n (rw (lt-leb n 40 l) at t))
+last-size = past-large fftSizes large 40 240 large-first
 
 module _ (n : ℕ) (x y : List Float) (c d : ℕ) where
   abbrev says : ℕ → ℕ → Type 0
