@@ -156,7 +156,7 @@ pub fn transform(
 }
 
 // Inner. The same of ten numbers, forward. Their plan has one stage above the two innermost, and all is written out, with no plan to read: the compiler puts it
-// into its one caller, where it knows every place, and keeps the numbers in registers. `fives2`, called from here as well, it would put into neither of its callers.
+// into its one caller, where it knows every place, and keeps the numbers in registers. `fives2`, called from here as well, it would leave out of the stage that calls itself.
 pub fn transform_10(re: &mut [f32], im: &mut [f32], x: &[f32], y: &[f32], tr: &[f32], ti: &[f32])
     requires { ⌜ (length (now x) ≡ 10) × (length (now y) ≡ 10) × (length (now tr) ≡ 9) × (length (now ti) ≡ 9) × (length (now re) ≡ 10) × (length (now im) ≡ 10) ⌝ }
     ensures { λ _. ⌜ (now (re .exit) ≡ reals (length (now (x .entry))) (packedSpectrum (at (now (tr .entry)) (now (ti .entry))) false (length (now (x .entry))) (at (now (x .entry)) (now (y .entry))))) × (now (im .exit) ≡ imaginaries (length (now (x .entry))) (packedSpectrum (at (now (tr .entry)) (now (ti .entry))) false (length (now (x .entry))) (at (now (x .entry)) (now (y .entry))))) ⌝ }
