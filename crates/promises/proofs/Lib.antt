@@ -2,8 +2,10 @@ pub mod Law
 pub mod Zeros
 pub mod AnalysisLaw
 pub mod SynthesisLaw
+pub mod Kept
 pub mod Facts
 pub mod Entries
 pub mod Flags
 pub mod Papers
 pub mod Short
+pub mod NoOverflow

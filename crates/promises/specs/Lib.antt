@@ -6,3 +6,4 @@ pub mod Entries
 pub mod Flags
 pub mod Papers
 pub mod Short
+pub mod NoOverflow

@@ -1,0 +1,116 @@
+-- What a butterfly makes of a column whose numbers have parts of at most 2 ^ k steps, those but the first twiddled to 2 of them. Assumes nothing.
+use mathlib.Core.Path.{_≡_, refl}
+use mathlib.Core.Bool.{Bool, true, false, cond}
+use mathlib.Core.List.{List, [], _∷_}
+use Prim.Native.Nat.{ℕ, _+_, _*_, _^_, _≤_, _<_}
+use native.Mathlib.Omega.{arith}
+use lib.Dec.{T, leb, ltb, leb→le, lit≤}
+use lib.Ieee.{Float, nan, binary32, mul, ofBits}
+use Rattle.complex.specs.declared.Complex.{Complex}
+use Rattle.complex.specs.Complex as complex
+use Rattle.columns.specs.Column as column
+use Rattle.bounds.specs.Within.{Each, none, also}
+use Rattle.bounds.proofs.Lists.{each-at}
+use Rattle.bounds.proofs.Bound.{Size, room, plus, minus, less, product, more, raise}
+
+pub record Both (k q : ℕ) (x : Complex) : Type 0 where
+  pub r : Size k q (x .r)
+  pub i : Size k q (x .i)
+
+-- a twiddle: no part is above 1 in magnitude
+abbrev pub Small : Complex → Type 0
+Small t = Both 149 1 t
+
+half-size : Size 148 1 column.half
+unfolding ofBits
+half-size = record { fact = lit≤ tt }
+
+module _ (k : ℕ) (K : k ≤ 250) where
+  K3 : k ≤ 253
+  K3 = omega arith
+
+  joined : {q r : ℕ} {x y : Complex} → Both k q x → Both k r y → T (ltb (q + r) (2 ^ 24)) → Both k (q + r) (complex.plus x y)
+  joined h g t = record { r = plus (room K3 t) (h .r) (g .r); i = plus (room K3 t) (h .i) (g .i) }
+
+  parted : {q r : ℕ} {x y : Complex} → Both k q x → Both k r y → T (ltb (q + r) (2 ^ 24)) → Both k (q + r) (complex.minus x y)
+  parted h g t = record { r = less (room K3 t) (h .r) (g .r); i = less (room K3 t) (h .i) (g .i) }
+
+  left : {q r : ℕ} {x y : Complex} → Both k q x → Both k r y → T (ltb (q + r) (2 ^ 24)) → Both k (q + r) (column.left x y)
+  left h g t = record { r = less (room K3 t) (h .r) (g .i); i = plus (room K3 t) (h .i) (g .r) }
+
+  right : {q r : ℕ} {x y : Complex} → Both k q x → Both k r y → T (ltb (q + r) (2 ^ 24)) → Both k (q + r) (column.right x y)
+  right h g t = record { r = plus (room K3 t) (h .r) (g .i); i = less (room K3 t) (h .i) (g .r) }
+
+  -- times a part of a twiddle
+  part : {q : ℕ} {x t : Float} → Size k q x → Size 149 1 t → T (ltb (q * 1) (2 ^ 24)) → Size k (q * 1) (mul binary32 x t)
+  part h g t = product (room K3 t) refl h g
+
+  scaled : {q : ℕ} {x : Complex} {t : Float} → Both k q x → Size 149 1 t → T (ltb (q * 1) (2 ^ 24)) → Both k (q * 1) (complex.scale x t)
+  scaled h g t = record { r = part (h .r) g t; i = part (h .i) g t }
+
+  halved : {x : Complex} → Both k 4 x → Both k 2 (complex.scale x column.half)
+  halved h = record { r = product (room K3 tt) (omega arith) (raise 2 1 (h .r)) half-size; i = product (room K3 tt) (omega arith) (raise 2 1 (h .i)) half-size }
+
+  -- two numbers' product, of which the one is a twiddle
+  pub turned : {i j : ℕ} {x y : Complex} → i + j ≡ k + 149 → Both i 1 x → Both j 1 y → Both k 2 (complex.times x y)
+  turned e h g =
+      record {
+        r = less (room K3 tt) (product (room K3 tt) e (h .r) (g .r)) (product (room K3 tt) e (h .i) (g .i));
+        i = plus (room K3 tt) (product (room K3 tt) e (h .r) (g .i)) (product (room K3 tt) e (h .i) (g .r));
+      }
+
+  -- q of 2 ^ k steps are one of 2 ^ (k + g)
+  pub up : {q : ℕ} (g : ℕ) {x : Complex} → Both k q x → T (leb q (1 * 2 ^ g)) → Both (k + g) 1 x
+  up {q} g h t = let l = leb→le q (1 * 2 ^ g) t in record { r = raise 1 g (more (1 * 2 ^ g) l (h .r)); i = raise 1 g (more (1 * 2 ^ g) l (h .i)) }
+
+  either : {q : ℕ} {x y : Complex} (b : Bool) → Both k q x → Both k q y → Both k q (cond b x y)
+  either true h g = h
+  either false h g = g
+
+  -- ---- the butterflies
+  pub by2 : (v : ℕ → Complex) → Both k 1 (v 0) → Both k 2 (v 1) → (q : ℕ) → q < 2 → Both (k + 2) 1 (column.two v q)
+  by2 v h a q Q = each-at {P = Both (k + 2) 1} _ q (also (up 2 (joined h a tt) tt) (also (up 2 (parted h a tt) tt) none)) Q
+
+  pub by3 : (v : ℕ → Complex) {y : Complex} → Both k 1 (v 0) → Both k 2 (v 1) → Both k 2 (v 2) → Small y → (q : ℕ) → q < 3 → Both (k + 3) 1 (column.three y v q)
+  by3 v h a b g q Q =
+      let s3 = joined a b tt in
+      let s0 = scaled (parted a b tt) (g .i) tt in
+      let x = parted h (halved s3) tt in
+      each-at {P = Both (k + 3) 1} _ q (also (up 3 (joined h s3 tt) tt) (also (up 3 (left x s0 tt) tt) (also (up 3 (right x s0 tt) tt) none))) Q
+
+  pub by4 : (v : ℕ → Complex) (inverse : Bool) → Both k 1 (v 0) → Both k 2 (v 1) → Both k 2 (v 2) → Both k 2 (v 3) → (q : ℕ) → q < 4 → Both (k + 3) 1 (column.four inverse v q)
+  by4 v inverse h a b c q Q =
+      let s5 = parted h b tt in
+      let s = joined h b tt in
+      let s3 = joined a c tt in
+      let s4 = parted a c tt in
+      let l = left s5 s4 tt in
+      let r = right s5 s4 tt in
+      each-at {P = Both (k + 3) 1} _ q
+      (also (up 3 (joined s s3 tt) tt) (also (up 3 (either inverse l r) tt) (also (up 3 (parted s s3 tt) tt) (also (up 3 (either inverse r l) tt) none)))) Q
+
+  -- parts of radix 5, from scratch 7 to 10 of 4 each
+  mix : {s0 s7 s8 : Complex} {a b : Float} → Both k 1 s0 → Both k 4 s7 → Both k 4 s8 → Size 149 1 a → Size 149 1 b → Both k 9 (column.mix s0 s7 s8 a b)
+  mix h g f a b = joined (joined h (scaled g a tt) tt) (scaled f b tt) tt
+
+  near : {s10 s9 ya yb : Complex} → Both k 4 s10 → Both k 4 s9 → Small ya → Small yb → Both k 8 (column.near s10 s9 ya yb)
+  near h g a b =
+      record { r = plus (room K3 tt) (part (h .i) (a .i) tt) (part (g .i) (b .i) tt); i = less (room K3 tt) (minus (part (h .r) (a .i) tt)) (part (g .r) (b .i) tt) }
+
+  far : {s10 s9 ya yb : Complex} → Both k 4 s10 → Both k 4 s9 → Small ya → Small yb → Both k 8 (column.far s10 s9 ya yb)
+  far h g a b =
+      record { r = plus (room K3 tt) (minus (part (h .i) (b .i) tt)) (part (g .i) (a .i) tt); i = less (room K3 tt) (part (h .r) (b .i) tt) (part (g .r) (a .i) tt) }
+
+  -- where all that is known of a twiddle is that no part is above 1: 17 times, so 2 ^ 5
+  pub by5 : (v : ℕ → Complex) {ya yb : Complex} → Both k 1 (v 0) → Both k 2 (v 1) → Both k 2 (v 2) → Both k 2 (v 3) → Both k 2 (v 4) → Small ya → Small yb → (q : ℕ) → q < 5 → Both (k + 5) 1 (column.five ya yb v q)
+  by5 v h a b c d ga gb q Q =
+      let s7 = joined a d tt in
+      let s10 = parted a d tt in
+      let s8 = joined b c tt in
+      let s9 = parted b c tt in
+      let s5 = mix h s7 s8 (ga .r) (gb .r) in
+      let s6 = near s10 s9 ga gb in
+      let s11 = mix h s7 s8 (gb .r) (ga .r) in
+      let s12 = far s10 s9 ga gb in
+      each-at {P = Both (k + 5) 1} _ q
+      (also (up 5 (joined h (joined s7 s8 tt) tt) tt) (also (up 5 (parted s5 s6 tt) tt) (also (up 5 (joined s11 s12 tt) tt) (also (up 5 (parted s11 s12 tt) tt) (also (up 5 (joined s5 s6 tt) tt) none))))) Q

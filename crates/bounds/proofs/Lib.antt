@@ -1,0 +1,9 @@
+pub mod Bound
+pub mod Lists
+pub mod Columns
+pub mod Work
+pub mod Tables
+pub mod Dct
+pub mod Energies
+pub mod Lines
+pub mod Samples

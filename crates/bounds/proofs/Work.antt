@@ -1,0 +1,87 @@
+-- The FFT over any plan of radices 2, 3, 4 and 5: each stage adds its growth to the exponent of the bound. Assumes nothing.
+use mathlib.Core.Path.{_≡_, refl, sym, ap, _∙_, subst}
+use mathlib.Core.Bool.{Bool, cond}
+use mathlib.Core.List.{List, [], _∷_}
+use Prim.Native.Nat.{ℕ, zero, suc, _+_, _*_, _/_, _%_, _≤_, _<_, zero-le}
+use native.Mathlib.Nat.{le-of-eq, le-of-lt, lt-of-le-of-lt, lt-of-lt-of-le, mul-comm, mul-assoc, mul-left-comm, mul-le-mul-left, mul-lt-mul-of-pos-right, lt-of-mul-lt-mul-right, mul-pos, mul-one, one-mul, mul-suc, add-zero, add-assoc, mod-lt, div-add-mod'}
+use native.Mathlib.Omega.{arith}
+use lib.Dec.{T, eqb, lit<}
+use borrow.Author.Tests.{lt-ltb}
+use Rattle.complex.specs.declared.Complex.{Complex}
+use Rattle.complex.specs.Complex.{times}
+use Rattle.butterflies.specs.Butterflies.{stage, twist, column2, column3, column4, column5}
+use Rattle.kf_work.specs.Work.{span, planned, column, work}
+use Rattle.kf_work.proofs.Plan.{split, whole, inner-positive, sub-nums}
+use Rattle.bounds.proofs.Columns.{Both, Small, turned, by2, by3, by4, by5}
+
+-- a column's numbers become 2 ^ 2 times as large in radix 2, 2 ^ 3 in 3 and 4, 2 ^ 5 in 5
+abbrev pub grow : ℕ → ℕ
+grow p = cond (eqb p 2) 2 (cond (eqb p 5) 5 3)
+
+-- the growth of a plan: radix, inner length, radix, inner length, ..
+abbrev pub growth : List ℕ → ℕ
+growth [] = 0
+growth (p ∷ []) = 0
+growth (p ∷ m ∷ ps) = growth ps + grow p
+
+-- ---- numbers of a stage
+-- twiddle q * (j * s) is in the table
+turn-in : (q j m p s N : ℕ) → j < m → q < p → 0 < s → s * (p * m) ≡ N → q * (j * s) < N
+turn-in q j m p s N J Q S e =
+    lt-of-le-of-lt (le-of-eq (mul-left-comm q j s ∙ sym (mul-assoc j q s)))
+    (lt-of-lt-of-le (mul-lt-mul-of-pos-right (lt-of-le-of-lt (mul-le-mul-left j (le-of-lt Q)) (mul-lt-mul-of-pos-right J (lt-of-le-of-lt zero-le Q))) S)
+    (le-of-eq (mul-comm (m * p) s ∙ ap (λ (x : ℕ). s * x) (mul-comm m p) ∙ e)))
+
+-- place k of p parts of m places is in part k / m
+part-in : (k m p : ℕ) → k < p * m → k / m < p
+part-in k m p h = lt-of-mul-lt-mul-right m (omega (arith, div-add-mod' k m))
+
+-- place j of part q
+place-in : (k m p q : ℕ) → 0 < m → q < p → k % m + m * q < p * m
+place-in k m p q M Q = omega (arith, mod-lt k M, mul-le-mul-left m Q, mul-suc m q, mul-comm m p)
+
+module _ (N : ℕ) (t : ℕ → Complex) (inverse : Bool) (small : (i : ℕ) → i < N → Small (t i)) where
+  -- ---- a stage's column: what its butterfly is handed
+  module _ (k : ℕ) (K : k ≤ 250) (p s m j : ℕ) (S : 0 < s) (e : s * (p * m) ≡ N) (J : j < m) (c : ℕ → Complex) (C : (q : ℕ) → q < p → Both k 1 (c q)) where
+    twiddled : (q : ℕ) → q < p → Both k 2 (times (c q) (t (q * (j * s))))
+    twiddled q Q = turned k K refl (C q Q) (small (q * (j * s)) (turn-in q j m p s N J Q S e))
+
+    -- a p-th of a turn, and two
+    turn : (q : ℕ) → q < p → Small (t (q * (s * m)))
+    turn q Q = small (q * (s * m)) (lt-of-lt-of-le (mul-lt-mul-of-pos-right Q (mul-pos S (lt-of-le-of-lt zero-le J))) (le-of-eq (mul-left-comm p s m ∙ e)))
+
+    one-turn : 1 < p → Small (t (s * m))
+    one-turn Q = subst (λ (n : ℕ). Small (t n)) (one-mul (s * m)) (turn 1 Q)
+
+  column-bound : (k : ℕ) → k ≤ 250 → (p s m j : ℕ) → 2 ≤ p → p ≤ 5 → 0 < s → s * (p * m) ≡ N → j < m → (c : ℕ → Complex) → ((q : ℕ) → q < p → Both k 1 (c q))
+      → (q : ℕ) → q < p → Both (k + grow p) 1 (column t inverse s p m j c q)
+  unfolding column column2 column3 column4 column5
+  column-bound k K zero s m j l u S e J c C = absurd (omega arith)
+  column-bound k K (suc zero) s m j l u S e J c C = absurd (omega arith)
+  column-bound k K (suc (suc zero)) s m j l u S e J c C = by2 k K (twist t (j * s) c) (C 0 (lit< tt)) (twiddled k K 2 s m j S e J c C 1 (lit< tt))
+  column-bound k K (suc (suc (suc zero))) s m j l u S e J c C =
+      let v = twiddled k K 3 s m j S e J c C in
+      by3 k K (twist t (j * s) c) (C 0 (lit< tt)) (v 1 (lit< tt)) (v 2 (lit< tt)) (one-turn k K 3 s m j S e J c C (lit< tt))
+  column-bound k K (suc (suc (suc (suc zero)))) s m j l u S e J c C =
+      let v = twiddled k K 4 s m j S e J c C in
+      by4 k K (twist t (j * s) c) inverse (C 0 (lit< tt)) (v 1 (lit< tt)) (v 2 (lit< tt)) (v 3 (lit< tt))
+  column-bound k K (suc (suc (suc (suc (suc zero))))) s m j l u S e J c C =
+      let v = twiddled k K 5 s m j S e J c C in
+      by5 k K (twist t (j * s) c) (C 0 (lit< tt)) (v 1 (lit< tt)) (v 2 (lit< tt)) (v 3 (lit< tt)) (v 4 (lit< tt)) (one-turn k K 5 s m j S e J c C (lit< tt)) (turn k K 5 s m j S e J c C 2 (lit< tt))
+  column-bound k K (suc (suc (suc (suc (suc (suc p)))))) s m j l u S e J c C = absurd (omega arith)
+
+  -- ---- the whole FFT, of numbers x whose parts are at most 2 ^ k steps
+  module _ (k : ℕ) (x : ℕ → Complex) (bound : (i : ℕ) → i < N → Both k 1 (x i)) where
+    pub work-bound : (ps : List ℕ) → T (planned ps) → (s o : ℕ) → o < s → s * span ps ≡ N → k + growth ps ≤ 250 → (i : ℕ) → i < span ps → Both (k + growth ps) 1 (work t inverse x ps s o i)
+    unfolding work stage planned
+    work-bound [] h s o O e K i I = subst (λ (n : ℕ). Both n 1 (x o)) (sym (add-zero k)) (bound o (lt-of-lt-of-le O (le-of-eq (sym (mul-one s) ∙ e))))
+    work-bound (p ∷ []) h s o O e K i I = absurd h
+    work-bound (p ∷ m ∷ ps) h s o O e K i I =
+        let d = split p m ps h in
+        let M = inner-positive (p ∷ m ∷ ps) p m ps d in
+        let same : s * p * span ps ≡ N = mul-assoc s p (span ps) ∙ ap (λ (n : ℕ). s * (p * n)) (sym (d .inner)) ∙ e in
+        let inner : (j : ℕ) → j < p * m → Both (k + growth ps) 1 (work t inverse x ps (s * p) (o + j / m * s) (j % m)) =
+        λ j J. work-bound ps (d .left) (s * p) (o + j / m * s) (sub-nums (p ∷ m ∷ ps) p m ps d s o (j / m) O (part-in j m p J) .3) same (omega arith) (j % m) (subst (λ (n : ℕ). j % m < n) (d .inner) (mod-lt j M)) in
+        subst (λ (n : ℕ). Both n 1 (work t inverse x (p ∷ m ∷ ps) s o i)) (add-assoc k (growth ps) (grow p))
+        (rw (lt-ltb i (p * m) I)
+        (column-bound (k + growth ps) (omega arith) p s m (i % m) (d .at-least) (d .at-most) (lt-of-le-of-lt zero-le O) e (mod-lt i M) _ (λ q Q. inner (i % m + m * q) (place-in i m p q M Q)) (i / m) (part-in i m p I)))

@@ -1,0 +1,174 @@
+-- Document 02 §13: a channel's samples stay 16-bit and its memory at most 2^74, whatever is called; and of such an array the laws of bounds hold. Assumes nothing.
+use Prim.Native.Nat.{ℕ, zero, suc, _+_, _-_, _^_, _≤_}
+use native.Mathlib.Nat.{le-antisymm}
+use native.Mathlib.Omega.{arith}
+use mathlib.Core.Path.{_≡_, refl, sym, ap, _∙_, subst}
+use mathlib.Core.Bool.{Bool, true, false, not, cond}
+use mathlib.Core.Option.{some, none, Option·none-ne-some, Option·some-injective}
+use mathlib.Core.List.{List, [], _∷_}
+use lib.IntN.{ℤ, pos}
+use lib.Dec.{T, eqb, ltb, nltb→le, lit<, lit≤}
+use lib.ListN.{length, getD, replicate}
+use lib.Ieee.{Float, nan, inf, fin}
+use borrow.Author.Tests.{eq-eqb}
+use Rattle.laws.specs.Lists.{tab, first}
+use Rattle.laws.specs.Numbers.{zero32}
+use Rattle.laws.specs.Passes.{passes6, passes7}
+use Rattle.laws.proofs.Lists.{length-tab, first-none}
+use Rattle.config.specs.Config.{valid, nf, z, ne, nb, edges, among, bandCounts}
+use Rattle.config.proofs.Sound.{sound}
+use Rattle.twiddles.specs.Circle.{finite}
+use Rattle.analysis_steps.specs.Buffer.{pastOf, bufferStep, bufferOf}
+use Rattle.analysis_steps.specs.Energy.{energies}
+use Rattle.analysis_lines.specs.Lines.{timeBuffer, linesOf}
+use Rattle.analysis.specs.declared.Channel.{Channel}
+use Rattle.analysis.specs.Analysis.{Lent, Given, energiesOf, keptOf, held, clearing, cleared, number, framed, frames}
+use Rattle.analysis.proofs.Frames.{passed}
+use Rattle.synthesis.specs.declared.Channel as synthesisChannel
+use Rattle.synthesis.specs.Synthesis as synthesisCalls
+use Rattle.synthesis.proofs.Frames as synthesisFrames
+use Rattle.loudest.specs.Loudest.{heard, paper}
+use Rattle.loudest.proofs.Rank.{first-le, first-all}
+use Rattle.bounds.specs.Within as within
+use Rattle.bounds.specs.Within.{Within, Each}
+use Rattle.bounds.proofs.Lists.{each-append, each-take, each-drop, each-replicate, each-tab, each-at, each-or, each-of, each-weaken}
+use Rattle.bounds.proofs.Bound.{Size}
+use Rattle.bounds.proofs.Lines.{length-mdct, lines-bound}
+use Rattle.bounds.proofs.Energies.{energies-bound}
+use Rattle.bounds.proofs.Samples.{six-within, zero-size, size-finite, memory-bound, samples-bound}
+use Rattle.promises.specs.Sequence.{Call, clears, after}
+use Rattle.promises.specs.AnalysisChannel.{analysis}
+use Rattle.promises.specs.SynthesisChannel.{synthesis}
+use Rattle.promises.specs.NoOverflow.{Sample, Sampled, Line, Energy, Finite, FromClear, OnAny, NoOverflow}
+use Rattle.promises.proofs.Kept.{kept}
+
+-- ---- analysis: the samples are 16-bit
+zeros : (n : ℕ) → Each Sample (replicate n (pos 0))
+zeros n = each-replicate n (pos 0) (record { sfits = lit< tt })
+
+abbrev Held : Channel → Type 0
+Held a = Each Sample (a .samples)
+
+past-each : (a : Channel) → Held a → Each Sample (held a)
+past-each a h = each-tab (nf (a .config) - z (a .config)) (λ k. getD (a .samples) k (pos 0)) (λ k l. each-or (pos 0) k (record { sfits = lit< tt }) h)
+
+buffer-each : (c : ℕ) {past x : List ℤ} → Each Sample past → Each Sample x → Each Sample (timeBuffer c past x)
+unfolding timeBuffer bufferStep pastOf bufferOf
+buffer-each c p a = each-append (each-append (each-take (nf c - z c) (each-drop (nf c) (each-append (each-append (zeros (nf c)) p) (zeros (z c))))) a) (zeros (z c))
+
+clear-held : (c : ℕ) (a : Channel) → clears analysis c ≡ some a → Held a
+unfolding cleared
+clear-held c a = go (valid c)
+  where
+    go : (b : Bool) → cond (eqb (clearing b c .number) 0) (some (clearing b c .channel)) none ≡ some a → Held a
+    go true e = subst Held (Option·some-injective _ a e) (zeros 300)
+    go false e = absurd (Option·none-ne-some a e)
+
+frame-held : (a : Channel) (x : Lent) → Each Sample (x .input) → Held a → Held (frames a x .1)
+unfolding frames keptOf pastOf
+frame-held a x s h = go (number (a .config) x)
+  where
+    go : (n : ℕ) → Held (framed n a x .1)
+    go zero = let c = a .config in each-append (each-take (nf c - z c) (each-drop (nf c) (buffer-each c (past-each a h) s))) (zeros (300 - (nf c - z c)))
+    go (suc n) = h
+
+-- what holds of an accepted frame on such a channel
+accepted : (P : Given → Type 0) → ((a : Channel) → T (valid (a .config)) → Held a → (x : Lent) → Each Sample (x .input) → P (framed 0 a x .0)) → OnAny P
+unfolding frames
+accepted P h a s x i e = go (number (a .config) x) refl e
+  where
+    go : (n : ℕ) → number (a .config) x ≡ n → framed n a x .0 .number ≡ 0 → P (framed n a x .0)
+    go zero p e = h a (passed (a .config) x p .0) s x i
+    go (suc n) p e = absurd (omega arith)
+
+from-clear : (P : Given → Type 0) → OnAny P → FromClear P
+from-clear P h c a e qs s x i n = h (after analysis a qs) (kept analysis Held Sampled clear-held frame-held a (clear-held c a e) s) x i n
+
+lines-each : (a : Channel) → T (valid (a .config)) → Held a → (x : Lent) → Each Sample (x .input) → Each Line (framed 0 a x .0 .lines)
+unfolding linesOf
+lines-each a v s x i = lines-bound (a .config) v _ (buffer-each (a .config) (past-each a s) i)
+
+energies-each : (a : Channel) → T (valid (a .config)) → Held a → (x : Lent) → Each Sample (x .input) → Each Energy (framed 0 a x .0 .energies)
+unfolding linesOf
+energies-each a v s x i = energies-bound 30 (lit≤ tt) (a .config) v _ (length-mdct (a .config) v (timeBuffer (a .config) (held a) (x .input))) (lines-each a v s x i)
+
+is-true : (b : Bool) → T b → b ≡ true
+is-true true t = refl
+is-true false t = absurd t
+
+-- the loudest band takes them: as many as the configuration has bands, and all pass 7
+hears : (c : ℕ) → T (valid c) → (l : List Float) → Each Energy (energiesOf c l) → paper (heard (energiesOf c l)) .number ≡ 0
+unfolding heard energiesOf energies
+hears c v l a =
+    let n : length (energiesOf c l) ≡ nb c = length-tab (nb c) _ in
+    let all = first-none passes7 (energiesOf c l) nan (λ k h. is-true (passes7 (getD (energiesOf c l) k nan)) (each-at nan k a h .0)) in
+    let some : among bandCounts (length (energiesOf c l)) ≡ true = is-true _ (subst (λ (m : ℕ). T (among bandCounts m)) (sym n) (sound c v .band-count)) in
+    rw (some, eq-eqb (first passes7 (energiesOf c l)) (length (energiesOf c l)) (sym all))
+
+-- ---- synthesis: the memory is at most 2^74
+abbrev Kept : synthesisChannel.Channel → Type 0
+Kept a = Each (Size 223 1) (a .memory)
+
+-- what a call that is not refused has passed, its lines' test among it
+passing : (c : ℕ) (x : synthesisCalls.Lent) → synthesisCalls.number c x ≡ 0 → Each (λ y. T (passes6 y)) (x .lines)
+passing c x e =
+    let l = x .lines in
+    let all : first passes6 l ≡ length l = le-antisymm (first-le passes6 l) (nltb→le (first passes6 l) (length l) (last (valid c) (eqb (length l) (ne c)) (eqb (length (x .samples)) (nf c)) (ltb (first passes6 l) (length l)) e)) in
+    each-of nan l (λ k h. subst T (sym (first-all passes6 l nan all k h)) tt)
+  where
+    last : (p q r s : Bool) → _≡_ {A = ℕ} (cond (not p) 1 (cond (not q) 3 (cond (not r) 4 (cond s 6 0)))) 0 → T (not s)
+    last true true true true e = omega arith
+    last true true true false e = tt
+    last true true false s e = absurd (omega arith)
+    last true false r s e = absurd (omega arith)
+    last false q r s e = absurd (omega arith)
+
+clear-kept : (c : ℕ) (a : synthesisChannel.Channel) → clears synthesis c ≡ some a → Kept a
+unfolding synthesisCalls.cleared
+clear-kept c a = go (valid c)
+  where
+    go : (b : Bool) → cond (eqb (synthesisCalls.clearing b c .number) 0) (some (synthesisCalls.clearing b c .channel)) none ≡ some a → Kept a
+    go true e = subst Kept (Option·some-injective _ a e) (each-replicate 300 zero32 (zero-size 223))
+    go false e = absurd (Option·none-ne-some a e)
+
+module _ (a : synthesisChannel.Channel) (x : synthesisCalls.Lent) (h : Kept a) where
+  by-number : (n : ℕ) → synthesisCalls.number (a .config) x ≡ n → Kept (synthesisCalls.framed n a x .1)
+  unfolding synthesisCalls.keptOf
+  by-number zero e =
+      let c = a .config in
+      let p = synthesisFrames.passed c x e in
+      each-append (memory-bound c (p .is-valid) (x .lines) (p .lines-is) (passing c x e)) (each-replicate (300 - (nf c - z c)) zero32 (zero-size 223))
+  by-number (suc n) e = h
+
+  sampled : (n : ℕ) → synthesisCalls.number (a .config) x ≡ n → synthesisCalls.framed n a x .0 .number ≡ 0 → Each Finite (synthesisCalls.framed n a x .0 .samples)
+  sampled zero e f =
+      let c = a .config in
+      let p = synthesisFrames.passed c x e in
+      let past = each-tab (nf c - z c) (λ k. getD (a .memory) k zero32) (λ k l. each-or zero32 k (zero-size 223) h) in
+      each-weaken size-finite (samples-bound c (p .is-valid) _ (x .lines) past (p .lines-is) (passing c x e))
+  sampled (suc n) e f = absurd (omega arith)
+
+frame-kept : (a : synthesisChannel.Channel) (x : synthesisCalls.Lent) → Unit {0} → Kept a → Kept (synthesisCalls.frames a x .1)
+unfolding synthesisCalls.frames
+frame-kept a x u h = by-number a x h (synthesisCalls.number (a .config) x) refl
+
+any : (qs : List (Call synthesisCalls.Lent)) → Each (λ q. Unit {0}) qs
+any [] = within.none
+any (q ∷ qs) = within.also tt (any qs)
+
+after-kept : (c : ℕ) (a : synthesisChannel.Channel) → clears synthesis c ≡ some a → (qs : List (Call synthesisCalls.Lent)) → Kept (after synthesis a qs)
+after-kept c a e qs = kept synthesis Kept (λ q. Unit {0}) clear-kept frame-kept a (clear-kept c a e) (any qs)
+
+pub no-overflow : NoOverflow
+unfolding synthesisCalls.frames
+no-overflow =
+    record {
+      lines = from-clear (λ g. Each Line (g .lines)) (accepted (λ g. Each Line (g .lines)) lines-each);
+      lines-anywhere = accepted (λ g. Each Line (g .lines)) lines-each;
+      energies = from-clear (λ g. Each Energy (g .energies)) (accepted (λ g. Each Energy (g .energies)) energies-each);
+      energies-anywhere = accepted (λ g. Each Energy (g .energies)) energies-each;
+      heard-anywhere = accepted (λ g. paper (heard (g .energies)) .number ≡ 0) (λ a v s x i. hears (a .config) v (linesOf (a .config) (held a) (x .input)) (energies-each a v s x i));
+      measured = λ c v l e a. each-weaken (λ x h. h .0) (energies-bound 60 (lit≤ tt) c v l e (each-weaken six-within a));
+      samples = λ c a e qs x n. sampled (after synthesis a qs) x (after-kept c a e qs) (synthesisCalls.number (after synthesis a qs .config) x) refl n;
+      memory = λ c a e qs. each-weaken size-finite (after-kept c a e qs);
+    }
