@@ -1,6 +1,5 @@
 -- How large what an operation of binary32 gives can be: a size is counted in steps of 2 ^ -149, the smallest f32 above zero. Assumes nothing.
 use mathlib.Core.Path.{_≡_, refl, sym, ap, _∙_, subst}
-use mathlib.Core.Logic.{_⊎_, inl, inr}
 use mathlib.Core.Bool.{Bool, true, false, _&&_, _||_, Bool·beq, cond, true≢false}
 use Prim.Native.Nat.{ℕ, zero, suc, _+_, _-_, _*_, _^_, _≤_, _<_}
 use native.Mathlib.Nat.{le-trans, le-of-eq, le-of-lt, lt-of-lt-of-le, lt-irrefl, one-mul, mul-one, zero-mul, mul-comm, mul-assoc, mul-left-comm, mul-right-comm, add-mul, mul-le-mul, mul-le-mul-left, mul-le-mul-right, mul-lt-mul-of-pos-right, le-of-mul-le-mul-right, mul-pos}
@@ -17,10 +16,7 @@ use mir.Syntax.{w16}
 use mir.Val.{SFits}
 use Rattle.laws.proofs.Sign.{round-neg}
 use Rattle.bounds.specs.Within.{Within}
-
--- x is finite, and at most q * 2 ^ k steps. So 2 ^ 30 is `Size 179 1`, and 3 * 2 ^ -4 is `Size 145 3`. A record, so that x is found where it is left out
-pub record Size (k q : ℕ) (x : Float) : Type 0 where
-  pub fact : Within (q * 2 ^ k) (2 ^ 149) x
+use Rattle.bounds.specs.Size.{Size}
 
 -- binary32 holds q * 2 ^ k steps
 pub record Room (k q : ℕ) : Type 0 where

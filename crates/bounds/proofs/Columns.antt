@@ -1,25 +1,17 @@
 -- What a butterfly makes of a column whose numbers have parts of at most 2 ^ k steps, those but the first twiddled to 2 of them. Assumes nothing.
 use mathlib.Core.Path.{_≡_, refl}
 use mathlib.Core.Bool.{Bool, true, false, cond}
-use mathlib.Core.List.{List, [], _∷_}
 use Prim.Native.Nat.{ℕ, _+_, _*_, _^_, _≤_, _<_}
 use native.Mathlib.Omega.{arith}
 use lib.Dec.{T, leb, ltb, leb→le, lit≤}
-use lib.Ieee.{Float, nan, binary32, mul, ofBits}
+use lib.Ieee.{Float, binary32, mul, ofBits}
 use Rattle.complex.specs.declared.Complex.{Complex}
 use Rattle.complex.specs.Complex as complex
 use Rattle.columns.specs.Column as column
-use Rattle.bounds.specs.Within.{Each, none, also}
+use Rattle.bounds.specs.Within.{none, also}
+use Rattle.bounds.specs.Size.{Size, Both, Small}
 use Rattle.bounds.proofs.Lists.{each-at}
-use Rattle.bounds.proofs.Bound.{Size, room, plus, minus, less, product, more, raise}
-
-pub record Both (k q : ℕ) (x : Complex) : Type 0 where
-  pub r : Size k q (x .r)
-  pub i : Size k q (x .i)
-
--- a twiddle: no part is above 1 in magnitude
-abbrev pub Small : Complex → Type 0
-Small t = Both 149 1 t
+use Rattle.bounds.proofs.Bound.{room, plus, minus, less, product, more, raise}
 
 half-size : Size 148 1 column.half
 unfolding ofBits

@@ -1,5 +1,5 @@
 -- The DCT-IV of values of at most 2 ^ k steps: the FFT's growth, and 2 ^ 3 beside it. Assumes nothing.
-use mathlib.Core.Path.{_≡_, refl, sym, _∙_, subst}
+use mathlib.Core.Path.{_≡_, sym, _∙_, subst}
 use mathlib.Core.Bool.{Bool, true, false, cond}
 use mathlib.Core.List.{List}
 use Prim.Native.Nat.{ℕ, _+_, _-_, _*_, _/_, _%_, _≤_, _<_}
@@ -13,14 +13,16 @@ use Rattle.complex.specs.declared.Complex.{Complex}
 use Rattle.complex.specs.Complex.{times, at}
 use Rattle.config.specs.Config.{among, fftSizes}
 use Rattle.twiddles.specs.Twiddles.{twiddle, dctTwiddle}
-use Rattle.kf_work.specs.Work.{plan, span, planned, spectrum, reals, imaginaries}
+use Rattle.kf_work.specs.Work.{plan, span, spectrum, reals, imaginaries}
 use Rattle.kf_work.proofs.Sizes.{sized}
 use Rattle.dct_steps.specs.Dct.{point, double, placed, dctBy, dctIv}
 use Rattle.bounds.specs.Within.{Each}
-use Rattle.bounds.proofs.Bound.{Size, room, minus, product}
-use Rattle.bounds.proofs.Columns.{Both, Small, turned, up}
+use Rattle.bounds.specs.Size.{Size, Both}
+use Rattle.bounds.specs.Growth.{growth}
+use Rattle.bounds.proofs.Bound.{room, minus, product}
+use Rattle.bounds.proofs.Columns.{turned, up}
 use Rattle.bounds.proofs.Lists.{each-at, each-tab}
-use Rattle.bounds.proofs.Work.{growth, work-bound}
+use Rattle.bounds.proofs.Work.{work-bound}
 use Rattle.bounds.proofs.Tables.{fft-small, dct-small}
 
 double-size : Size 150 1 double

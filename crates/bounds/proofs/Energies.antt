@@ -2,11 +2,11 @@
 use mathlib.Core.Path.{_≡_, refl, sym, ap, _∙_, subst}
 use mathlib.Core.Bool.{Bool, true, false, cond, true≢false}
 use mathlib.Core.List.{List, [], _∷_}
-use Prim.Native.Nat.{ℕ, suc, _+_, _-_, _*_, _/_, _%_, _^_, _≤_, _<_}
+use Prim.Native.Nat.{ℕ, suc, _+_, _-_, _*_, _/_, _^_, _≤_, _<_}
 use native.Mathlib.Nat.{le-trans, le-of-eq, lt-of-le-of-lt, zero-mul, mul-one, one-mul, mul-comm, add-zero, zero-add, add-mul, add-assoc, add-comm, suc-mul, le-add-right, mul-le-mul-left, mul-le-mul-right, mul-right-comm, mod-lt, div-add-mod'}
 use native.Mathlib.Omega.{arith}
 use lib.IntN.{pos}
-use lib.Dec.{T, eqb, ltb, lt→ltb, lit<, lit≤}
+use lib.Dec.{T, eqb, lt→ltb, lit<, lit≤}
 use lib.Pow.{pow-add, pow-lt}
 use lib.ListN.{length, getD, take, drop, length-take, length-drop}
 use lib.Ieee.{Float, nan, inf, fin, binary32, up, down, round, sum, add, mul, div, ofInt, ofBits}
@@ -17,7 +17,8 @@ use Rattle.config.proofs.Sound.{sound}
 use Rattle.analysis_steps.specs.Energy.{sumOf, share, energy, bandOf, energies}
 use Rattle.analysis.specs.Analysis.{energiesOf}
 use Rattle.bounds.specs.Within.{Within, Each, none, also}
-use Rattle.bounds.proofs.Bound.{Size, Room, room, Plus, round-plus, plus, product, AtLeast, quotient, part-pos, more, raise, plain, sized, whole-at-least, whole-plus}
+use Rattle.bounds.specs.Size.{Size}
+use Rattle.bounds.proofs.Bound.{Room, room, Plus, round-plus, plus, product, AtLeast, quotient, part-pos, more, raise, plain, sized, whole-at-least, whole-plus}
 use Rattle.bounds.proofs.Lists.{each-take, each-drop, each-tab}
 
 -- ---- the sign plus goes through squares, quotients and sums

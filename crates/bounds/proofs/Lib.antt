@@ -4,6 +4,7 @@ pub mod Columns
 pub mod Work
 pub mod Tables
 pub mod Dct
+pub mod Growth
 pub mod Energies
 pub mod Lines
 pub mod Samples

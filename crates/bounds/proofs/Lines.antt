@@ -1,12 +1,12 @@
 -- The lines of any samples: fold, DCT, gain. Assumes nothing.
 use mathlib.Core.Path.{_≡_, refl, ap₂, _∙_}
 use mathlib.Core.List.{List}
-use Prim.Native.Nat.{ℕ, _+_, _-_, _*_, _/_, _^_, _<_}
+use Prim.Native.Nat.{ℕ, _+_, _-_, _*_, _^_, _<_}
 use native.Mathlib.Omega.{arith}
 use lib.IntN.{ℤ, pos}
 use lib.Dec.{T, lit<, lit≤}
 use lib.ListN.{length, getD, length-append}
-use lib.Ieee.{Float, binary32, mul, neg, ofInt, ofBits}
+use lib.Ieee.{Float, binary32, mul}
 use mir.Syntax.{w16}
 use mir.Val.{SFits}
 use Rattle.laws.specs.Lists.{tab}
@@ -15,16 +15,15 @@ use Rattle.config.specs.Config.{valid, nf, half}
 use Rattle.config.proofs.Sound.{sound}
 use Rattle.windows.specs.Windows.{window}
 use Rattle.twiddles.specs.Twiddles.{gain}
-use Rattle.kf_work.specs.Work.{plan}
 use Rattle.dct_steps.specs.Dct.{dctIv}
 use Rattle.dct_steps.proofs.Placed.{length-dctIv}
 use Rattle.analysis_steps.specs.Fold.{weighed, foldLow, foldHigh, folded, gained}
 use Rattle.analysis_lines.specs.Lines.{mdct}
 use Rattle.bounds.specs.Within.{Within, Each}
-use Rattle.bounds.proofs.Bound.{Size, room, minus, less, product, raise, plain, sample}
+use Rattle.bounds.specs.Size.{Size}
+use Rattle.bounds.proofs.Bound.{room, minus, less, product, raise, plain, sample}
 use Rattle.bounds.proofs.Lists.{each-append, each-tab, each-or, each-map}
-use Rattle.bounds.proofs.Work.{growth}
-use Rattle.bounds.proofs.Tables.{tamed, entry-size}
+use Rattle.bounds.proofs.Tables.{plan-grows, gain-size, entry-size}
 use Rattle.bounds.proofs.Dct.{dct-bound}
 
 module _ (c : ℕ) (v : T (valid c)) (t : List ℤ) where
@@ -61,7 +60,7 @@ module _ (c : ℕ) (v : T (valid c)) (t : List ℤ) where
     unfolding mdct gained
     lines-bound =
         let s = sound c v in
-        let m = tamed c v in
+        let g = plan-grows c v in
         each-map (λ (x : Float). mul binary32 x (gain (nf c)))
-        (λ x h. plain 30 (product (room (lit≤ tt) tt) (omega (arith, m .few)) h (m .gain-size)))
-        (dct-bound (half c) (s .fft-size) 166 (omega (arith, m .few)) (folded (nf c) (window c) t) (length-folded ∙ even) folded-size)
+        (λ x h. plain 30 (product (room (lit≤ tt) tt) (omega (arith, g)) h (gain-size c v)))
+        (dct-bound (half c) (s .fft-size) 166 (omega (arith, g)) (folded (nf c) (window c) t) (length-folded ∙ even) folded-size)

@@ -5,26 +5,23 @@ use Prim.Native.Nat.{ℕ, _+_, _-_, _*_, _^_, zero-le}
 use native.Mathlib.Nat.{le-trans, le-of-eq, mul-one, zero-mul}
 use native.Mathlib.Omega.{arith}
 use lib.Dec.{T, leb→le, lit≤}
-use lib.ListN.{length, replicate}
+use lib.ListN.{length}
 use lib.Ieee.{Float, nan, inf, fin, up, down, binary32, add, mul, neg, ofBits}
 use Rattle.laws.specs.Numbers.{zero32}
 use Rattle.laws.specs.Passes.{passes6}
 use Rattle.config.specs.Config.{valid, nf, z, ne, half}
 use Rattle.config.proofs.Sound.{sound}
-use Rattle.windows.specs.Windows.{window}
 use Rattle.twiddles.specs.Twiddles.{gain}
 use Rattle.twiddles.specs.Circle.{finite}
-use Rattle.kf_work.specs.Work.{plan}
-use Rattle.dct_steps.specs.Dct.{dctIv}
 use Rattle.synthesis_steps.specs.Places.{padded, mirrored, unfolded, scaled, windowed, output, remains}
 use Rattle.synthesis_steps.proofs.Places.{length-padded}
 use Rattle.synthesis_frame.specs.Frame.{places}
 use Rattle.synthesis_samples.specs.Samples.{placesOf, samplesOf, memoryOf}
 use Rattle.bounds.specs.Within.{Within, Each}
-use Rattle.bounds.proofs.Bound.{Size, room, plus, minus, product, more, raise, sized}
+use Rattle.bounds.specs.Size.{Size}
+use Rattle.bounds.proofs.Bound.{room, plus, minus, product, more, sized}
 use Rattle.bounds.proofs.Lists.{each-append, each-take, each-drop, each-replicate, each-reverse, each-map, each-zip, each-weaken}
-use Rattle.bounds.proofs.Work.{growth}
-use Rattle.bounds.proofs.Tables.{tamed, entries-size}
+use Rattle.bounds.proofs.Tables.{plan-grows, gain-size, entries-size}
 use Rattle.bounds.proofs.Dct.{dct-bound}
 
 -- what passes 6 is at most 2 ^ 60
@@ -56,12 +53,12 @@ module _ (c : ℕ) (v : T (valid c)) where
   unfolding placesOf places padded scaled windowed
   places-bound x e a =
       let s = sound c v in
-      let m = tamed c v in
+      let g = plan-grows c v in
       let h = half c in
       let b : Each (Size 209 1) (padded (2 * h) x) = each-append (each-weaken (λ y t. sized 60 y (six-within y t)) a) (each-replicate (2 * h - length x) zero32 (zero-size 209)) in
-      let d = dct-bound h (s .fft-size) 209 (omega (arith, m .few)) (padded (2 * h) x) (length-padded (2 * h) x (omega (arith, e, s .ne-le, s .even))) b in
+      let d = dct-bound h (s .fft-size) 209 (omega (arith, g)) (padded (2 * h) x) (length-padded (2 * h) x (omega (arith, e, s .ne-le, s .even))) b in
       each-zip (mul binary32) (λ x y p q. product (room (lit≤ tt) tt) refl p q)
-      (each-map {Q = Size 222 1} (λ (y : Float). mul binary32 y (gain (nf c))) (λ y u. product (room (lit≤ tt) tt) (omega (arith, m .few)) u (m .gain-size)) (unfolded-each h d))
+      (each-map {Q = Size 222 1} (λ (y : Float). mul binary32 y (gain (nf c))) (λ y u. product (room (lit≤ tt) tt) (omega (arith, g)) u (gain-size c v)) (unfolded-each h d))
       (each-map {Q = Size 150 1} (ofBits binary32) (λ b u. u) (each-reverse (entries-size c v)))
 
   pub memory-bound : (x : List Float) → length x ≡ ne c → Each (λ y. T (passes6 y)) x → Each (Size 223 1) (memoryOf c x)

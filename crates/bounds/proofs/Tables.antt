@@ -22,10 +22,10 @@ use Rattle.windows.specs.Windows.{window, small}
 use Rattle.windows.proofs.Entries.{rule}
 use Rattle.kf_work.specs.Work.{plan}
 use Rattle.bounds.specs.Within.{Within, Each, none, also}
-use Rattle.bounds.proofs.Bound.{Size, sized}
-use Rattle.bounds.proofs.Columns.{Small}
+use Rattle.bounds.specs.Size.{Size, Small}
+use Rattle.bounds.specs.Growth.{growth}
+use Rattle.bounds.proofs.Bound.{sized}
 use Rattle.bounds.proofs.Lists.{each-at, each-of}
-use Rattle.bounds.proofs.Work.{growth}
 
 -- `Size k 1`, as a test that antt computes
 abbrev upto : ℕ → Float → Bool
@@ -80,11 +80,7 @@ module _ (n : ℕ) (s : T (among fftSizes n)) where
       let l = twiddles.sized n ours in
       both-small n (dctRe n) (dctIm n) (l .dct-re) (l .dct-im) (and-r (ones (fftRe n) && ones (fftIm n)) _ (at-among tame sizes tame-test n ours))
 
--- ---- the plan's growth, and with it the gain: the one is 2 ^ 14 at most, both together 2 ^ 10
-pub record Tamed (c : ℕ) : Type 0 where
-  pub few : growth (plan (half c)) ≤ 14
-  pub gain-size : Size (159 - growth (plan (half c))) 1 (gain (nf c))
-
+-- ---- the plan's growth, and the gain that goes with it
 abbrev good : ℕ → Bool
 good c = leb (growth (plan (half c))) 14 && upto (159 - growth (plan (half c))) (gain (nf c))
 
@@ -92,11 +88,12 @@ good-test : T (every (λ k c. good c) 0 configs)
 unfolding row rows half plan sizes gainBits gain ofBits ofFields odd trailingZeros
 good-test = tt
 
-pub tamed : (c : ℕ) → T (valid c) → Tamed c
-tamed c v =
-    let t : T (good c) = each good good-test c v in
-    let g = growth (plan (half c)) in
-    record { few = leb→le g 14 (and-l (leb g 14) _ t); gain-size = size-of (159 - g) (gain (nf c)) (and-r (leb g 14) _ t) }
+module _ (c : ℕ) (v : T (valid c)) where
+  pub plan-grows : growth (plan (half c)) ≤ 14
+  plan-grows = leb→le _ 14 (and-l (leb (growth (plan (half c))) 14) _ (each good good-test c v))
+
+  pub gain-size : Size (159 - growth (plan (half c))) 1 (gain (nf c))
+  gain-size = size-of _ (gain (nf c)) (and-r (leb (growth (plan (half c))) 14) _ (each good good-test c v))
 
 -- ---- the window: every entry is at most 2
 pub entry-size : (c : ℕ) → T (valid c) → (k : ℕ) → k < 2 * nf c → Size 150 1 (ofBits binary32 (getD (window c) k 0))

@@ -11,18 +11,10 @@ use Rattle.complex.specs.declared.Complex.{Complex}
 use Rattle.complex.specs.Complex.{times}
 use Rattle.butterflies.specs.Butterflies.{stage, twist, column2, column3, column4, column5}
 use Rattle.kf_work.specs.Work.{span, planned, column, work}
-use Rattle.kf_work.proofs.Plan.{split, whole, inner-positive, sub-nums}
-use Rattle.bounds.proofs.Columns.{Both, Small, turned, by2, by3, by4, by5}
-
--- a column's numbers become 2 ^ 2 times as large in radix 2, 2 ^ 3 in 3 and 4, 2 ^ 5 in 5
-abbrev pub grow : ℕ → ℕ
-grow p = cond (eqb p 2) 2 (cond (eqb p 5) 5 3)
-
--- the growth of a plan: radix, inner length, radix, inner length, ..
-abbrev pub growth : List ℕ → ℕ
-growth [] = 0
-growth (p ∷ []) = 0
-growth (p ∷ m ∷ ps) = growth ps + grow p
+use Rattle.kf_work.proofs.Plan.{split, inner-positive, sub-nums}
+use Rattle.bounds.specs.Size.{Both, Small}
+use Rattle.bounds.specs.Growth.{grow, growth}
+use Rattle.bounds.proofs.Columns.{turned, by2, by3, by4, by5}
 
 -- ---- numbers of a stage
 -- twiddle q * (j * s) is in the table
@@ -53,7 +45,7 @@ module _ (N : ℕ) (t : ℕ → Complex) (inverse : Bool) (small : (i : ℕ) →
     one-turn : 1 < p → Small (t (s * m))
     one-turn Q = subst (λ (n : ℕ). Small (t n)) (one-mul (s * m)) (turn 1 Q)
 
-  column-bound : (k : ℕ) → k ≤ 250 → (p s m j : ℕ) → 2 ≤ p → p ≤ 5 → 0 < s → s * (p * m) ≡ N → j < m → (c : ℕ → Complex) → ((q : ℕ) → q < p → Both k 1 (c q))
+  pub column-bound : (k : ℕ) → k ≤ 250 → (p s m j : ℕ) → 2 ≤ p → p ≤ 5 → 0 < s → s * (p * m) ≡ N → j < m → (c : ℕ → Complex) → ((q : ℕ) → q < p → Both k 1 (c q))
       → (q : ℕ) → q < p → Both (k + grow p) 1 (column t inverse s p m j c q)
   unfolding column column2 column3 column4 column5
   column-bound k K zero s m j l u S e J c C = absurd (omega arith)

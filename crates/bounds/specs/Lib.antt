@@ -1,1 +1,3 @@
 pub mod Within
+pub mod Size
+pub mod Growth

@@ -9,3 +9,4 @@ pub mod Flags
 pub mod Papers
 pub mod Short
 pub mod NoOverflow
+pub mod Reached

@@ -1,23 +1,22 @@
 -- Document 02 §13: a channel's samples stay 16-bit and its memory at most 2^74, whatever is called; and of such an array the laws of bounds hold. Assumes nothing.
-use Prim.Native.Nat.{ℕ, zero, suc, _+_, _-_, _^_, _≤_}
+use Prim.Native.Nat.{ℕ, zero, suc, _-_}
 use native.Mathlib.Nat.{le-antisymm}
 use native.Mathlib.Omega.{arith}
-use mathlib.Core.Path.{_≡_, refl, sym, ap, _∙_, subst}
+use mathlib.Core.Path.{_≡_, refl, sym, subst}
 use mathlib.Core.Bool.{Bool, true, false, not, cond}
-use mathlib.Core.Option.{some, none, Option·none-ne-some, Option·some-injective}
+use mathlib.Core.Option.{some}
 use mathlib.Core.List.{List, [], _∷_}
 use lib.IntN.{ℤ, pos}
 use lib.Dec.{T, eqb, ltb, nltb→le, lit<, lit≤}
 use lib.ListN.{length, getD, replicate}
-use lib.Ieee.{Float, nan, inf, fin}
+use lib.Ieee.{Float, nan}
 use borrow.Author.Tests.{eq-eqb}
-use Rattle.laws.specs.Lists.{tab, first}
+use Rattle.laws.specs.Lists.{first}
 use Rattle.laws.specs.Numbers.{zero32}
 use Rattle.laws.specs.Passes.{passes6, passes7}
 use Rattle.laws.proofs.Lists.{length-tab, first-none}
-use Rattle.config.specs.Config.{valid, nf, z, ne, nb, edges, among, bandCounts}
+use Rattle.config.specs.Config.{valid, nf, z, ne, nb, among, bandCounts}
 use Rattle.config.proofs.Sound.{sound}
-use Rattle.twiddles.specs.Circle.{finite}
 use Rattle.analysis_steps.specs.Buffer.{pastOf, bufferStep, bufferOf}
 use Rattle.analysis_steps.specs.Energy.{energies}
 use Rattle.analysis_lines.specs.Lines.{timeBuffer, linesOf}
@@ -30,9 +29,9 @@ use Rattle.synthesis.proofs.Frames as synthesisFrames
 use Rattle.loudest.specs.Loudest.{heard, paper}
 use Rattle.loudest.proofs.Rank.{first-le, first-all}
 use Rattle.bounds.specs.Within as within
-use Rattle.bounds.specs.Within.{Within, Each}
+use Rattle.bounds.specs.Within.{Each}
 use Rattle.bounds.proofs.Lists.{each-append, each-take, each-drop, each-replicate, each-tab, each-at, each-or, each-of, each-weaken}
-use Rattle.bounds.proofs.Bound.{Size}
+use Rattle.bounds.specs.Size.{Size}
 use Rattle.bounds.proofs.Lines.{length-mdct, lines-bound}
 use Rattle.bounds.proofs.Energies.{energies-bound}
 use Rattle.bounds.proofs.Samples.{six-within, zero-size, size-finite, memory-bound, samples-bound}
@@ -56,13 +55,9 @@ buffer-each : (c : ℕ) {past x : List ℤ} → Each Sample past → Each Sample
 unfolding timeBuffer bufferStep pastOf bufferOf
 buffer-each c p a = each-append (each-append (each-take (nf c - z c) (each-drop (nf c) (each-append (each-append (zeros (nf c)) p) (zeros (z c))))) a) (zeros (z c))
 
-clear-held : (c : ℕ) (a : Channel) → clears analysis c ≡ some a → Held a
+clear-held : (c : ℕ) → Held (cleared c .channel)
 unfolding cleared
-clear-held c a = go (valid c)
-  where
-    go : (b : Bool) → cond (eqb (clearing b c .number) 0) (some (clearing b c .channel)) none ≡ some a → Held a
-    go true e = subst Held (Option·some-injective _ a e) (zeros 300)
-    go false e = absurd (Option·none-ne-some a e)
+clear-held c = elim (valid c) as (λ b. Held (clearing b c .channel)) [ true ↦ zeros 300 | false ↦ zeros 300 ]
 
 frame-held : (a : Channel) (x : Lent) → Each Sample (x .input) → Held a → Held (frames a x .1)
 unfolding frames keptOf pastOf
@@ -82,7 +77,7 @@ accepted P h a s x i e = go (number (a .config) x) refl e
     go (suc n) p e = absurd (omega arith)
 
 from-clear : (P : Given → Type 0) → OnAny P → FromClear P
-from-clear P h c a e qs s x i n = h (after analysis a qs) (kept analysis Held Sampled clear-held frame-held a (clear-held c a e) s) x i n
+from-clear P h c a e qs s x i n = h (after analysis a qs) (kept analysis Held Sampled clear-held frame-held c a e s) x i n
 
 lines-each : (a : Channel) → T (valid (a .config)) → Held a → (x : Lent) → Each Sample (x .input) → Each Line (framed 0 a x .0 .lines)
 unfolding linesOf
@@ -123,13 +118,9 @@ passing c x e =
     last true false r s e = absurd (omega arith)
     last false q r s e = absurd (omega arith)
 
-clear-kept : (c : ℕ) (a : synthesisChannel.Channel) → clears synthesis c ≡ some a → Kept a
+clear-kept : (c : ℕ) → Kept (synthesisCalls.cleared c .channel)
 unfolding synthesisCalls.cleared
-clear-kept c a = go (valid c)
-  where
-    go : (b : Bool) → cond (eqb (synthesisCalls.clearing b c .number) 0) (some (synthesisCalls.clearing b c .channel)) none ≡ some a → Kept a
-    go true e = subst Kept (Option·some-injective _ a e) (each-replicate 300 zero32 (zero-size 223))
-    go false e = absurd (Option·none-ne-some a e)
+clear-kept c = elim (valid c) as (λ b. Kept (synthesisCalls.clearing b c .channel)) [ true ↦ each-replicate 300 zero32 (zero-size 223) | false ↦ each-replicate 300 zero32 (zero-size 223) ]
 
 module _ (a : synthesisChannel.Channel) (x : synthesisCalls.Lent) (h : Kept a) where
   by-number : (n : ℕ) → synthesisCalls.number (a .config) x ≡ n → Kept (synthesisCalls.framed n a x .1)
@@ -157,7 +148,7 @@ any [] = within.none
 any (q ∷ qs) = within.also tt (any qs)
 
 after-kept : (c : ℕ) (a : synthesisChannel.Channel) → clears synthesis c ≡ some a → (qs : List (Call synthesisCalls.Lent)) → Kept (after synthesis a qs)
-after-kept c a e qs = kept synthesis Kept (λ q. Unit {0}) clear-kept frame-kept a (clear-kept c a e) (any qs)
+after-kept c a e qs = kept synthesis Kept (λ q. Unit {0}) clear-kept frame-kept c a e (any qs)
 
 pub no-overflow : NoOverflow
 unfolding synthesisCalls.frames

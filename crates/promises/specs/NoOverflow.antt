@@ -2,19 +2,23 @@
 use Prim.Native.Nat.{ℕ, _^_}
 use mathlib.Core.Path.{_≡_}
 use mathlib.Core.Option.{some}
-use mathlib.Core.List.{List}
-use lib.IntN.{ℤ}
+use mathlib.Core.List.{List, [], _∷_}
+use lib.IntN.{ℤ, pos, negsuc}
 use lib.Dec.{T}
-use lib.ListN.{length}
-use lib.Ieee.{Float}
+use lib.ListN.{length, getD, replicate}
+use lib.Ieee.{Float, nan, binary32, ofBits, ofInt}
 use mir.Syntax.{w16}
 use mir.Val.{SFits}
+use Rattle.laws.specs.Numbers.{zero32}
 use Rattle.laws.specs.Passes.{passes6, passes7}
+use Rattle.complex.specs.declared.Complex.{Complex}
+use Rattle.complex.specs.Complex.{parts}
+use Rattle.columns.specs.Column.{col, five}
 use Rattle.config.specs.Config.{valid, nf}
 use Rattle.config.specs.Refusals as refusals
 use Rattle.twiddles.specs.Circle.{finite}
 use Rattle.analysis.specs.declared.Channel.{Channel}
-use Rattle.analysis.specs.Analysis.{Lent, Given, energiesOf, frames}
+use Rattle.analysis.specs.Analysis.{Lent, Given, energiesOf, frames, lent, silent}
 use Rattle.synthesis.specs.declared.Channel as synthesisChannel
 use Rattle.synthesis.specs.Synthesis as synthesisCalls
 use Rattle.loudest.specs.Loudest.{heard, paper}
@@ -69,3 +73,29 @@ pub record NoOverflow : Type 0 where
       → synthesisCalls.frames (after synthesis a qs) x .0 .number ≡ refusals.accepted → Each Finite (synthesisCalls.frames (after synthesis a qs) x .0 .samples)
   -- "and all memory"
   pub memory : (c : ℕ) (a : synthesisChannel.Channel) → clears synthesis c ≡ some a → (qs : List (Call synthesisCalls.Lent)) → Each Finite (after synthesis a qs .memory)
+
+-- ---- smaller bounds would be false
+-- sixty samples of -32768, with room for the lines and energies of configuration 0
+abbrev pub lowest : Lent
+lowest = lent (replicate 60 (negsuc 32767)) (replicate 60 zero32) (replicate 60 zero32)
+
+-- line 0 and energy 0 of that frame, on a channel right after a clear
+abbrev pub line0 : Float
+line0 = getD (frames (silent 0) lowest .0 .lines) 0 nan
+
+abbrev pub energy0 : Float
+energy0 = getD (frames (silent 0) lowest .0 .energies) 0 nan
+
+-- whole numbers as parts
+abbrev pub both : ℤ → ℤ → Complex
+both r i = parts (ofInt binary32 r) (ofInt binary32 i)
+
+pub record Reached : Type 0 where
+  -- Line 0 is 208934.67, so it is false that every line is at most 2^16 in magnitude.
+  pub line-is : line0 ≡ ofBits binary32 0x484c09ab
+  pub line-above : Within (2 ^ 16) 1 line0 → ⊥
+  -- Energy 0 is 43653697536, so it is false that every energy is at most 2^32.
+  pub energy-is : energy0 ≡ ofBits binary32 0x51229f69
+  pub energy-above : Within (2 ^ 32) 1 energy0 → ⊥
+  -- In radix 5 a column with parts of 1, or 2 where it is twiddled, comes to 17 under twiddles with parts of 1: so, of such, it is false that no part grows more than 2^4 times.
+  pub column-is : five (both (pos 1) (pos 1)) (both (pos 1) (pos 1)) (col (both (pos 1) (pos 1) ∷ both (pos 2) (negsuc 1) ∷ both (pos 2) (negsuc 1) ∷ both (pos 2) (pos 2) ∷ both (pos 2) (pos 2) ∷ [])) 1 .r ≡ ofInt binary32 (pos 17)

@@ -1,0 +1,44 @@
+-- How much the transform can make its numbers grow, once for every radix, plan and configuration. Definitions only.
+use Prim.Native.Nat.{ℕ, _+_, _-_, _*_, _≤_, _<_}
+use mathlib.Core.Path.{_≡_}
+use mathlib.Core.Bool.{Bool, false, cond}
+use mathlib.Core.List.{List, [], _∷_}
+use lib.Dec.{T, eqb}
+use lib.ListN.{length}
+use lib.Ieee.{Float}
+use Rattle.complex.specs.declared.Complex.{Complex}
+use Rattle.config.specs.Config.{valid, nf, half, among, fftSizes}
+use Rattle.twiddles.specs.Twiddles.{twiddle, dctTwiddle, gain}
+use Rattle.kf_work.specs.Work.{plan, span, planned, column, work}
+use Rattle.dct_steps.specs.Dct.{dctIv}
+use Rattle.bounds.specs.Within.{Each}
+use Rattle.bounds.specs.Size.{Size, Both, Small}
+
+-- the parts of a column's numbers grow 2^2 times at most in radix 2, 2^3 in 3 and 4, 2^5 in 5
+abbrev pub grow : ℕ → ℕ
+grow p = cond (eqb p 2) 2 (cond (eqb p 5) 5 3)
+
+-- by a plan (radix, inner length, radix, inner length, ..) 2^growth times
+abbrev pub growth : List ℕ → ℕ
+growth [] = 0
+growth (p ∷ []) = 0
+growth (p ∷ m ∷ ps) = growth ps + grow p
+
+pub record Growth : Type 0 where
+  -- no part of a twiddle that the DCT or its FFT reads is above 1
+  pub fft-small : (n : ℕ) → T (among fftSizes n) → (i : ℕ) → i < n → Small (twiddle n false i)
+  pub dct-small : (n : ℕ) → T (among fftSizes n) → (i : ℕ) → i < n → Small (dctTwiddle n i)
+  -- a column of radix p, with n twiddles so small: from parts of at most 2^k steps to 2^grow times that
+  pub columns : (n : ℕ) (t : ℕ → Complex) (inverse : Bool) → ((i : ℕ) → i < n → Small (t i))
+      → (k : ℕ) → k ≤ 250 → (p s m j : ℕ) → 2 ≤ p → p ≤ 5 → 0 < s → s * (p * m) ≡ n → j < m → (c : ℕ → Complex) → ((q : ℕ) → q < p → Both k 1 (c q))
+      → (q : ℕ) → q < p → Both (k + grow p) 1 (column t inverse s p m j c q)
+  -- the transform of n numbers by any plan of n
+  pub works : (n : ℕ) (t : ℕ → Complex) (inverse : Bool) → ((i : ℕ) → i < n → Small (t i))
+      → (k : ℕ) (x : ℕ → Complex) → ((i : ℕ) → i < n → Both k 1 (x i)) → (ps : List ℕ) → T (planned ps) → span ps ≡ n → k + growth ps ≤ 250
+      → (i : ℕ) → i < n → Both (k + growth ps) 1 (work t inverse x ps 1 0 i)
+  -- the DCT of 2 n values: 2^3 times that of its FFT
+  pub dcts : (n : ℕ) → T (among fftSizes n) → (k : ℕ) → k + 3 + growth (plan n) ≤ 250
+      → (buf : List Float) → length buf ≡ 2 * n → Each (Size k 1) buf → Each (Size (k + 3 + growth (plan n)) 1) (dctIv buf)
+  -- a configuration's plan grows 2^14 times at most, and gain and growth together are 2^10 at most
+  pub plans : (c : ℕ) → T (valid c) → growth (plan (half c)) ≤ 14
+  pub gains : (c : ℕ) → T (valid c) → Size (159 - growth (plan (half c))) 1 (gain (nf c))
