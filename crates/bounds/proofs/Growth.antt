@@ -6,7 +6,7 @@ use lib.Dec.{lit<}
 use Rattle.kf_work.specs.Work.{span}
 use Rattle.bounds.specs.Growth.{Growth}
 use Rattle.bounds.proofs.Work.{column-bound, work-bound}
-use Rattle.bounds.proofs.Tables.{fft-small, dct-small, plan-grows, gain-size}
+use Rattle.bounds.proofs.Tables.{fft-small, dct-small, tame-all}
 use Rattle.bounds.proofs.Dct.{dct-bound}
 
 pub grows : Growth
@@ -17,6 +17,5 @@ grows =
       columns = column-bound;
       works = λ n t inverse small k x b ps h e K i I. work-bound n t inverse small k x b ps h 1 0 (lit< tt) (one-mul (span ps) ∙ e) K i (subst (λ (m : ℕ). i < m) (sym e) I);
       dcts = dct-bound;
-      plans = plan-grows;
-      gains = gain-size;
+      tames = tame-all;
     }

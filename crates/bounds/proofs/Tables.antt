@@ -18,20 +18,14 @@ use Rattle.complex.specs.Complex.{at}
 use Rattle.twiddles.specs.Tables.{sizes, fftReBits, fftImBits, dctReBits, dctImBits, gainBits}
 use Rattle.twiddles.specs.Twiddles.{start, fftRe, fftIm, fftImOf, dctRe, dctIm, twiddle, dctTwiddle, gain}
 use Rattle.twiddles.proofs.Sizes as twiddles
-use Rattle.windows.specs.Windows.{window, small}
+use Rattle.windows.specs.Windows as windows
 use Rattle.windows.proofs.Entries.{rule}
 use Rattle.kf_work.specs.Work.{plan}
 use Rattle.bounds.specs.Within.{Within, Each, none, also}
-use Rattle.bounds.specs.Size.{Size, Small}
-use Rattle.bounds.specs.Growth.{growth}
+use Rattle.bounds.specs.Size.{Size, upto, Small}
+use Rattle.bounds.specs.Growth.{growth, tame}
 use Rattle.bounds.proofs.Bound.{sized}
 use Rattle.bounds.proofs.Lists.{each-at, each-of}
-
--- `Size k 1`, as a test that antt computes
-abbrev upto : ℕ → Float → Bool
-upto k nan = false
-upto k (inf s) = false
-upto k (fin s m e) = leb (m * up e * 2 ^ 149) (1 * 2 ^ k * down e)
 
 size-of : (k : ℕ) (x : Float) → T (upto k x) → Size k 1 x
 size-of k x t = record { fact = go x t }
@@ -50,12 +44,12 @@ ones-each : (xs : List Float) → T (ones xs) → Each (Size 149 1) xs
 ones-each [] t = none
 ones-each (x ∷ xs) t = also (size-of 149 x (and-l (upto 149 x) (ones xs) t)) (ones-each xs (and-r (upto 149 x) (ones xs) t))
 
-abbrev tame : ℕ → Bool
-tame n = (ones (fftRe n) && ones (fftIm n)) && (ones (dctRe n) && ones (dctIm n))
+abbrev small : ℕ → Bool
+small n = (ones (fftRe n) && ones (fftIm n)) && (ones (dctRe n) && ones (dctIm n))
 
-tame-test : T (every (λ k n. tame n) 0 sizes)
+small-test : T (every (λ k n. small n) 0 sizes)
 unfolding sizes start fftRe fftIm dctRe dctIm fftReBits fftImBits dctReBits dctImBits ofBits ofFields odd trailingZeros
-tame-test = tt
+small-test = tt
 
 both-small : (n : ℕ) (res ims : List Float) → length res ≡ n → length ims ≡ n → T (ones res && ones ims) → (i : ℕ) → i < n → Small (at res ims i)
 both-small n res ims a b t i I =
@@ -72,38 +66,38 @@ module _ (n : ℕ) (s : T (among fftSizes n)) where
   unfolding twiddle fftImOf
   fft-small =
       let l = twiddles.sized n ours in
-      both-small n (fftRe n) (fftIm n) (l .fft-re) (l .fft-im) (and-l (ones (fftRe n) && ones (fftIm n)) _ (at-among tame sizes tame-test n ours))
+      both-small n (fftRe n) (fftIm n) (l .fft-re) (l .fft-im) (and-l (ones (fftRe n) && ones (fftIm n)) _ (at-among small sizes small-test n ours))
 
   pub dct-small : (i : ℕ) → i < n → Small (dctTwiddle n i)
   unfolding dctTwiddle
   dct-small =
       let l = twiddles.sized n ours in
-      both-small n (dctRe n) (dctIm n) (l .dct-re) (l .dct-im) (and-r (ones (fftRe n) && ones (fftIm n)) _ (at-among tame sizes tame-test n ours))
+      both-small n (dctRe n) (dctIm n) (l .dct-re) (l .dct-im) (and-r (ones (fftRe n) && ones (fftIm n)) _ (at-among small sizes small-test n ours))
 
 -- ---- the plan's growth, and the gain that goes with it
-abbrev good : ℕ → Bool
-good c = leb (growth (plan (half c))) 14 && upto (159 - growth (plan (half c))) (gain (nf c))
-
-good-test : T (every (λ k c. good c) 0 configs)
+tame-test : T (every (λ k c. tame c) 0 configs)
 unfolding row rows half plan sizes gainBits gain ofBits ofFields odd trailingZeros
-good-test = tt
+tame-test = tt
+
+pub tame-all : (c : ℕ) → T (valid c) → T (tame c)
+tame-all = each tame tame-test
 
 module _ (c : ℕ) (v : T (valid c)) where
   pub plan-grows : growth (plan (half c)) ≤ 14
-  plan-grows = leb→le _ 14 (and-l (leb (growth (plan (half c))) 14) _ (each good good-test c v))
+  plan-grows = leb→le _ 14 (and-l (leb (growth (plan (half c))) 14) _ (tame-all c v))
 
   pub gain-size : Size (159 - growth (plan (half c))) 1 (gain (nf c))
-  gain-size = size-of _ (gain (nf c)) (and-r (leb (growth (plan (half c))) 14) _ (each good good-test c v))
+  gain-size = size-of _ (gain (nf c)) (and-r (leb (growth (plan (half c))) 14) _ (tame-all c v))
 
 -- ---- the window: every entry is at most 2
-pub entry-size : (c : ℕ) → T (valid c) → (k : ℕ) → k < 2 * nf c → Size 150 1 (ofBits binary32 (getD (window c) k 0))
-unfolding small
-entry-size c v k h = sized 1 (ofBits binary32 (getD (window c) k 0)) (go (ofBits binary32 (getD (window c) k 0)) (rule .window-small c v k h))
+pub entry-size : (c : ℕ) → T (valid c) → (k : ℕ) → k < 2 * nf c → Size 150 1 (ofBits binary32 (getD (windows.window c) k 0))
+unfolding windows.small
+entry-size c v k h = sized 1 (ofBits binary32 (getD (windows.window c) k 0)) (go (ofBits binary32 (getD (windows.window c) k 0)) (rule .window-small c v k h))
   where
-    go : (x : Float) → T (small x) → Within (2 ^ 1) 1 x
+    go : (x : Float) → T (windows.small x) → Within (2 ^ 1) 1 x
     go nan t = t
     go (inf s) t = t
     go (fin s m e) t = le-trans (le-of-eq (mul-one (m * up e))) (leb→le (m * up e) (2 * down e) t)
 
-pub entries-size : (c : ℕ) → T (valid c) → Each (λ b. Size 150 1 (ofBits binary32 b)) (window c)
-entries-size c v = each-of 0 (window c) (λ k h. entry-size c v k (subst (λ (n : ℕ). k < n) (rule .window-length c v) h))
+pub entries-size : (c : ℕ) → T (valid c) → Each (λ b. Size 150 1 (ofBits binary32 b)) (windows.window c)
+entries-size c v = each-of 0 (windows.window c) (λ k h. entry-size c v k (subst (λ (n : ℕ). k < n) (rule .window-length c v) h))

@@ -1,9 +1,9 @@
 -- How much the transform can make its numbers grow, once for every radix, plan and configuration. Definitions only.
 use Prim.Native.Nat.{ℕ, _+_, _-_, _*_, _≤_, _<_}
 use mathlib.Core.Path.{_≡_}
-use mathlib.Core.Bool.{Bool, false, cond}
+use mathlib.Core.Bool.{Bool, false, cond, _&&_}
 use mathlib.Core.List.{List, [], _∷_}
-use lib.Dec.{T, eqb}
+use lib.Dec.{T, leb, eqb}
 use lib.ListN.{length}
 use lib.Ieee.{Float}
 use Rattle.complex.specs.declared.Complex.{Complex}
@@ -12,7 +12,7 @@ use Rattle.twiddles.specs.Twiddles.{twiddle, dctTwiddle, gain}
 use Rattle.kf_work.specs.Work.{plan, span, planned, column, work}
 use Rattle.dct_steps.specs.Dct.{dctIv}
 use Rattle.bounds.specs.Within.{Each}
-use Rattle.bounds.specs.Size.{Size, Both, Small}
+use Rattle.bounds.specs.Size.{Size, upto, Both, Small}
 
 -- the parts of a column's numbers grow 2^2 times at most in radix 2, 2^3 in 3 and 4, 2^5 in 5
 abbrev pub grow : ℕ → ℕ
@@ -23,6 +23,10 @@ abbrev pub growth : List ℕ → ℕ
 growth [] = 0
 growth (p ∷ []) = 0
 growth (p ∷ m ∷ ps) = growth ps + grow p
+
+-- a configuration's plan and gain, as a test: the plan grows 2^14 times at most, and with the gain 2^10 times
+abbrev pub tame : ℕ → Bool
+tame c = leb (growth (plan (half c))) 14 && upto (159 - growth (plan (half c))) (gain (nf c))
 
 pub record Growth : Type 0 where
   -- no part of a twiddle that the DCT or its FFT reads is above 1
@@ -39,6 +43,5 @@ pub record Growth : Type 0 where
   -- the DCT of 2 n values: 2^3 times that of its FFT
   pub dcts : (n : ℕ) → T (among fftSizes n) → (k : ℕ) → k + 3 + growth (plan n) ≤ 250
       → (buf : List Float) → length buf ≡ 2 * n → Each (Size k 1) buf → Each (Size (k + 3 + growth (plan n)) 1) (dctIv buf)
-  -- a configuration's plan grows 2^14 times at most, and gain and growth together are 2^10 at most
-  pub plans : (c : ℕ) → T (valid c) → growth (plan (half c)) ≤ 14
-  pub gains : (c : ℕ) → T (valid c) → Size (159 - growth (plan (half c))) 1 (gain (nf c))
+  -- every configuration passes its test
+  pub tames : (c : ℕ) → T (valid c) → T (tame c)

@@ -1,12 +1,13 @@
 -- Document 02 §13, no frame overflows: of the definitions that the contracts cite, and of demand 3's own sequences of calls. A row for each sentence. Definitions only.
 use Prim.Native.Nat.{ℕ, _^_}
 use mathlib.Core.Path.{_≡_}
+use mathlib.Core.Bool.{false}
 use mathlib.Core.Option.{some}
 use mathlib.Core.List.{List, [], _∷_}
 use lib.IntN.{ℤ, pos, negsuc}
 use lib.Dec.{T}
 use lib.ListN.{length, getD, replicate}
-use lib.Ieee.{Float, nan, binary32, ofBits, ofInt}
+use lib.Ieee.{Float, nan, inf, binary32, ofBits, ofInt}
 use mir.Syntax.{w16}
 use mir.Val.{SFits}
 use Rattle.laws.specs.Numbers.{zero32}
@@ -17,6 +18,7 @@ use Rattle.columns.specs.Column.{col, five}
 use Rattle.config.specs.Config.{valid, nf}
 use Rattle.config.specs.Refusals as refusals
 use Rattle.twiddles.specs.Circle.{finite}
+use Rattle.analysis_steps.specs.Energy.{energy}
 use Rattle.analysis.specs.declared.Channel.{Channel}
 use Rattle.analysis.specs.Analysis.{Lent, Given, energiesOf, frames, lent, silent}
 use Rattle.synthesis.specs.declared.Channel as synthesisChannel
@@ -97,5 +99,7 @@ pub record Reached : Type 0 where
   -- Energy 0 is 43653697536, so it is false that every energy is at most 2^32.
   pub energy-is : energy0 ≡ ofBits binary32 0x51229f69
   pub energy-above : Within (2 ^ 32) 1 energy0 → ⊥
+  -- The energy of a band of one line of 2^64 is infinite, so it is false that the energies of any finite lines pass 7.
+  pub square-is : energy (ofBits binary32 0x5f800000 ∷ []) ≡ inf false
   -- In radix 5 a column with parts of 1, or 2 where it is twiddled, comes to 17 under twiddles with parts of 1: so, of such, it is false that no part grows more than 2^4 times.
   pub column-is : five (both (pos 1) (pos 1)) (both (pos 1) (pos 1)) (col (both (pos 1) (pos 1) ∷ both (pos 2) (negsuc 1) ∷ both (pos 2) (negsuc 1) ∷ both (pos 2) (pos 2) ∷ both (pos 2) (pos 2) ∷ [])) 1 .r ≡ ofInt binary32 (pos 17)
