@@ -2,13 +2,13 @@
 use Prim.Native.Nat.{ℕ, zero, suc, _-_}
 use native.Mathlib.Nat.{le-antisymm}
 use native.Mathlib.Omega.{arith}
-use mathlib.Core.Path.{_≡_, refl, sym, subst}
+use mathlib.Core.Path.{_≡_, refl, sym, ap, subst}
 use mathlib.Core.Bool.{Bool, true, false, not, cond}
 use mathlib.Core.Option.{some}
 use mathlib.Core.List.{List, [], _∷_}
 use lib.IntN.{ℤ, pos}
 use lib.Dec.{T, eqb, ltb, nltb→le, lit<, lit≤}
-use lib.ListN.{length, getD, replicate}
+use lib.ListN.{length, getD, replicate, length-replicate}
 use lib.Ieee.{Float, nan}
 use borrow.Author.Tests.{eq-eqb}
 use Rattle.laws.specs.Lists.{first}
@@ -21,11 +21,12 @@ use Rattle.analysis_steps.specs.Buffer.{pastOf, bufferStep, bufferOf}
 use Rattle.analysis_steps.specs.Energy.{energies}
 use Rattle.analysis_lines.specs.Lines.{timeBuffer, linesOf}
 use Rattle.analysis.specs.declared.Channel.{Channel}
-use Rattle.analysis.specs.Analysis.{Lent, Given, energiesOf, keptOf, held, clearing, cleared, number, framed, frames}
-use Rattle.analysis.proofs.Frames.{passed}
+use Rattle.analysis.specs.Analysis.{Lent, Given, energiesOf, keptOf, held, clearing, cleared, number, framed, frames, lent}
+use Rattle.analysis.proofs.Frames.{says-0, passed}
 use Rattle.synthesis.specs.declared.Channel as synthesisChannel
 use Rattle.synthesis.specs.Synthesis as synthesisCalls
 use Rattle.synthesis.proofs.Frames as synthesisFrames
+use Rattle.listing.specs.Listing as listing
 use Rattle.loudest.specs.Loudest.{heard, paper}
 use Rattle.loudest.proofs.Rank.{first-le, first-all}
 use Rattle.bounds.specs.Within as within
@@ -100,6 +101,21 @@ hears c v l a =
     let some : among bandCounts (length (energiesOf c l)) ≡ true = is-true _ (subst (λ (m : ℕ). T (among bandCounts m)) (sym n) (sound c v .band-count)) in
     rw (some, eq-eqb (first passes7 (energiesOf c l)) (length (energiesOf c l)) (sym all))
 
+abbrev hear : Given → Type 0
+hear g = paper (heard (g .energies)) .number ≡ 0
+
+hears-each : (a : Channel) → T (valid (a .config)) → Held a → (x : Lent) → Each Sample (x .input) → hear (framed 0 a x .0)
+hears-each a v s x i = hears (a .config) v (linesOf (a .config) (held a) (x .input)) (energies-each a v s x i)
+
+-- the listing's call of a whole frame is accepted
+takes : (a : Channel) → T (valid (a .config)) → (x : List ℤ) → length x ≡ nf (a .config) → listing.framed a x .0 .number ≡ 0
+unfolding frames
+takes a v x e =
+    let c = a .config in
+    let n : number c (lent x (listing.zeros (nf c)) (listing.zeros (nb c))) ≡ 0 =
+    sym (says-0 c (lent x (listing.zeros (nf c)) (listing.zeros (nb c))) refl (ap not (is-true (valid c) v)) e (length-replicate (nf c) zero32) (length-replicate (nb c) zero32)) in
+    ap (λ (m : ℕ). framed m a (lent x (listing.zeros (nf c)) (listing.zeros (nb c))) .0 .number) n
+
 -- ---- synthesis: the memory is at most 2^74
 abbrev Kept : synthesisChannel.Channel → Type 0
 Kept a = Each (Size 223 1) (a .memory)
@@ -158,7 +174,8 @@ no-overflow =
       lines-anywhere = accepted (λ g. Each Line (g .lines)) lines-each;
       energies = from-clear (λ g. Each Energy (g .energies)) (accepted (λ g. Each Energy (g .energies)) energies-each);
       energies-anywhere = accepted (λ g. Each Energy (g .energies)) energies-each;
-      heard-anywhere = accepted (λ g. paper (heard (g .energies)) .number ≡ 0) (λ a v s x i. hears (a .config) v (linesOf (a .config) (held a) (x .input)) (energies-each a v s x i));
+      heard-anywhere = accepted hear hears-each;
+      listed = λ a v s x e i. (takes a v x e, accepted hear hears-each a s (lent x (listing.zeros (nf (a .config))) (listing.zeros (nb (a .config)))) i (takes a v x e));
       measured = λ c v l e a. each-weaken (λ x h. h .0) (energies-bound 60 (lit≤ tt) c v l e (each-weaken six-within a));
       samples = λ c a e qs x n. sampled (after synthesis a qs) x (after-kept c a e qs) (synthesisCalls.number (after synthesis a qs .config) x) refl n;
       memory = λ c a e qs. each-weaken size-finite (after-kept c a e qs);

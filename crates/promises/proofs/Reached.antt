@@ -20,7 +20,7 @@ use Rattle.analysis_steps.specs.Buffer.{pastOf, bufferStep, bufferOf}
 use Rattle.analysis_steps.specs.Fold.{weighed, foldLow, foldHigh, folded, gained}
 use Rattle.analysis_steps.specs.Energy.{share, energy, bandOf, energies}
 use Rattle.analysis_lines.specs.Lines.{timeBuffer, mdct, linesOf}
-use Rattle.analysis.specs.Analysis.{energiesOf, frames}
+use Rattle.analysis.specs.Analysis.{energiesOf, cleared, frames}
 use Rattle.bounds.specs.Within.{Within}
 use Rattle.promises.specs.NoOverflow.{line0, energy0, Reached}
 
@@ -36,5 +36,5 @@ not-within a (inf s) t h = h
 not-within a (fin s m e) t h = lt-irrefl (a * down e) (lt-of-lt-of-le (ltb→lt (a * down e) (m * up e * 1) t) h)
 
 pub reached : Reached
-unfolding frames linesOf mdct timeBuffer bufferStep pastOf bufferOf gained folded foldLow foldHigh weighed dctIv spectrum work column column2 column3 column5 stage plan twiddle fftImOf fftRe fftIm dctTwiddle dctRe dctIm gain start sizes fftReBits fftImBits dctReBits dctImBits gainBits windows.window windows.start entries row rows half tab ofBits ofFields odd trailingZeros units round neg sum add sub mul div ofInt energiesOf energies bandOf energy share edges edgeRows
+unfolding cleared frames linesOf mdct timeBuffer bufferStep pastOf bufferOf gained folded foldLow foldHigh weighed dctIv spectrum work column column2 column3 column5 stage plan twiddle fftImOf fftRe fftIm dctTwiddle dctRe dctIm gain start sizes fftReBits fftImBits dctReBits dctImBits gainBits windows.window windows.start entries row rows half tab ofBits ofFields odd trailingZeros units round neg sum add sub mul div ofInt energiesOf energies bandOf energy share edges edgeRows
 reached = record { line-is = refl; line-above = not-within (2 ^ 16) line0 tt; energy-is = refl; energy-above = not-within (2 ^ 32) energy0 tt; square-is = refl; column-is = refl }

@@ -20,10 +20,11 @@ use Rattle.config.specs.Refusals as refusals
 use Rattle.twiddles.specs.Circle.{finite}
 use Rattle.analysis_steps.specs.Energy.{energy}
 use Rattle.analysis.specs.declared.Channel.{Channel}
-use Rattle.analysis.specs.Analysis.{Lent, Given, energiesOf, frames, lent, silent}
+use Rattle.analysis.specs.Analysis.{Lent, Given, energiesOf, cleared, frames, lent}
 use Rattle.synthesis.specs.declared.Channel as synthesisChannel
 use Rattle.synthesis.specs.Synthesis as synthesisCalls
 use Rattle.loudest.specs.Loudest.{heard, paper}
+use Rattle.listing.specs.Listing.{framed}
 use Rattle.bounds.specs.Within.{Within, Each}
 use Rattle.promises.specs.Sequence.{Call, clear, frame, clears, after}
 use Rattle.promises.specs.AnalysisChannel.{analysis}
@@ -66,8 +67,11 @@ pub record NoOverflow : Type 0 where
   -- "every energy finite, not below zero and at most 2^61"
   pub energies : FromClear (λ g. Each Energy (g .energies))
   pub energies-anywhere : OnAny (λ g. Each Energy (g .energies))
-  -- So the loudest band never refuses the energies of a frame.
+  -- So the loudest band never refuses the energies of an accepted frame.
   pub heard-anywhere : OnAny (λ g. paper (heard (g .energies)) .number ≡ refusals.accepted)
+  -- So in the listing, whose call lends room for nf lines and nb energies, neither a frame of nf samples nor its energies are refused.
+  pub listed : (a : Channel) → T (valid (a .config)) → Each Sample (a .samples) → (x : List ℤ) → length x ≡ nf (a .config) → Each Sample x
+      → (framed a x .0 .number ≡ refusals.accepted) × (paper (heard (framed a x .0 .energies)) .number ≡ refusals.accepted)
   -- The energies of any nf lines that pass 6 pass 7: a line's square is at most 2^120.
   pub measured : (c : ℕ) → T (valid c) → (l : List Float) → length l ≡ nf c → Each (λ x. T (passes6 x)) l → Each (λ x. T (passes7 x)) (energiesOf c l)
   -- "in synthesis, for lines that pass 6 with any history from a clear, every sample .. is finite": a frame with another line is refused
@@ -83,10 +87,10 @@ lowest = lent (replicate 60 (negsuc 32767)) (replicate 60 zero32) (replicate 60 
 
 -- line 0 and energy 0 of that frame, on a channel right after a clear
 abbrev pub line0 : Float
-line0 = getD (frames (silent 0) lowest .0 .lines) 0 nan
+line0 = getD (frames (cleared 0 .channel) lowest .0 .lines) 0 nan
 
 abbrev pub energy0 : Float
-energy0 = getD (frames (silent 0) lowest .0 .energies) 0 nan
+energy0 = getD (frames (cleared 0 .channel) lowest .0 .energies) 0 nan
 
 -- whole numbers as parts
 abbrev pub both : ℤ → ℤ → Complex
