@@ -68,8 +68,11 @@ frame-held a x s h = go (number (a .config) x)
     go zero = let c = a .config in each-append (each-take (nf c - z c) (each-drop (nf c) (buffer-each c (past-each a h) s))) (zeros (300 - (nf c - z c)))
     go (suc n) = h
 
--- what holds of an accepted frame on such a channel
-accepted : (P : Given → Type 0) → ((a : Channel) → T (valid (a .config)) → Held a → (x : Lent) → Each Sample (x .input) → P (framed 0 a x .0)) → OnAny P
+-- ---- analysis: of what a call on such a channel gives, where it is not refused
+abbrev Taken : (Given → Type 0) → Type 0
+Taken P = (a : Channel) → T (valid (a .config)) → Held a → (x : Lent) → Each Sample (x .input) → P (framed 0 a x .0)
+
+accepted : (P : Given → Type 0) → Taken P → OnAny P
 unfolding frames
 accepted P h a s x i e = go (number (a .config) x) refl e
   where
@@ -80,11 +83,17 @@ accepted P h a s x i e = go (number (a .config) x) refl e
 from-clear : (P : Given → Type 0) → OnAny P → FromClear P
 from-clear P h c a e qs s x i n = h (after analysis a qs) (kept analysis Held Sampled clear-held frame-held c a e s) x i n
 
-lines-each : (a : Channel) → T (valid (a .config)) → Held a → (x : Lent) → Each Sample (x .input) → Each Line (framed 0 a x .0 .lines)
+abbrev Lines : Given → Type 0
+Lines g = Each Line (g .lines)
+
+lines-each : Taken Lines
 unfolding linesOf
 lines-each a v s x i = lines-bound (a .config) v _ (buffer-each (a .config) (past-each a s) i)
 
-energies-each : (a : Channel) → T (valid (a .config)) → Held a → (x : Lent) → Each Sample (x .input) → Each Energy (framed 0 a x .0 .energies)
+abbrev Energies : Given → Type 0
+Energies g = Each Energy (g .energies)
+
+energies-each : Taken Energies
 unfolding linesOf
 energies-each a v s x i = energies-bound 30 (lit≤ tt) (a .config) v _ (length-mdct (a .config) v (timeBuffer (a .config) (held a) (x .input))) (lines-each a v s x i)
 
@@ -101,13 +110,13 @@ hears c v l a =
     let some : among bandCounts (length (energiesOf c l)) ≡ true = is-true _ (subst (λ (m : ℕ). T (among bandCounts m)) (sym n) (sound c v .band-count)) in
     rw (some, eq-eqb (first passes7 (energiesOf c l)) (length (energiesOf c l)) (sym all))
 
-abbrev hear : Given → Type 0
-hear g = paper (heard (g .energies)) .number ≡ 0
+abbrev Hears : Given → Type 0
+Hears g = paper (heard (g .energies)) .number ≡ 0
 
-hears-each : (a : Channel) → T (valid (a .config)) → Held a → (x : Lent) → Each Sample (x .input) → hear (framed 0 a x .0)
+hears-each : Taken Hears
 hears-each a v s x i = hears (a .config) v (linesOf (a .config) (held a) (x .input)) (energies-each a v s x i)
 
--- the listing's call of a whole frame is accepted
+-- ---- the listing's call of a whole frame is accepted
 takes : (a : Channel) → T (valid (a .config)) → (x : List ℤ) → length x ≡ nf (a .config) → listing.framed a x .0 .number ≡ 0
 unfolding frames
 takes a v x e =
@@ -170,12 +179,12 @@ pub no-overflow : NoOverflow
 unfolding synthesisCalls.frames
 no-overflow =
     record {
-      lines = from-clear (λ g. Each Line (g .lines)) (accepted (λ g. Each Line (g .lines)) lines-each);
-      lines-anywhere = accepted (λ g. Each Line (g .lines)) lines-each;
-      energies = from-clear (λ g. Each Energy (g .energies)) (accepted (λ g. Each Energy (g .energies)) energies-each);
-      energies-anywhere = accepted (λ g. Each Energy (g .energies)) energies-each;
-      heard-anywhere = accepted hear hears-each;
-      listed = λ a v s x e i. (takes a v x e, accepted hear hears-each a s (lent x (listing.zeros (nf (a .config))) (listing.zeros (nb (a .config)))) i (takes a v x e));
+      lines = from-clear Lines (accepted Lines lines-each);
+      lines-anywhere = accepted Lines lines-each;
+      energies = from-clear Energies (accepted Energies energies-each);
+      energies-anywhere = accepted Energies energies-each;
+      heard-anywhere = accepted Hears hears-each;
+      listed = λ a v s x e i. (takes a v x e, accepted Hears hears-each a s (lent x (listing.zeros (nf (a .config))) (listing.zeros (nb (a .config)))) i (takes a v x e));
       measured = λ c v l e a. each-weaken (λ x h. h .0) (energies-bound 60 (lit≤ tt) c v l e (each-weaken six-within a));
       samples = λ c a e qs x n. sampled (after synthesis a qs) x (after-kept c a e qs) (synthesisCalls.number (after synthesis a qs .config) x) refl n;
       memory = λ c a e qs. each-weaken size-finite (after-kept c a e qs);
