@@ -1,19 +1,20 @@
 -- How large what an operation of binary32 gives can be: a size is counted in steps of 2 ^ -149, the smallest f32 above zero. Assumes nothing.
 use mathlib.Core.Path.{_≡_, refl, sym, ap, _∙_, subst}
 use mathlib.Core.Bool.{Bool, true, false, _&&_, _||_, Bool·beq, cond, true≢false}
-use Prim.Native.Nat.{ℕ, zero, suc, _+_, _-_, _*_, _^_, _≤_, _<_}
+use Prim.Native.Nat.{ℕ, zero, suc, _+_, _-_, _*_, _^_, _≤_, _<_, zero-le}
 use native.Mathlib.Nat.{le-trans, le-of-eq, le-of-lt, lt-of-lt-of-le, lt-irrefl, one-mul, mul-one, zero-mul, mul-comm, mul-assoc, mul-left-comm, mul-right-comm, add-mul, mul-le-mul, mul-le-mul-left, mul-le-mul-right, mul-lt-mul-of-pos-right, le-of-mul-le-mul-right, mul-pos}
 use native.Mathlib.Omega.{arith}
 use lib.IntN.{ℤ, pos, negsuc}
-use lib.Dec.{T, ltb, eqb, eqb→eq, ltb→lt, lit<, lit≤}
+use lib.Dec.{T, leb, ltb, eqb, eqb→eq, ltb→lt, leb→le, lit<, lit≤}
 use lib.Pow.{pow-add, pow-pos, pow-mono}
-use lib.Ieee.{Float, nan, inf, fin, Format, binary32, prec, emax, low, unlike, up, down, odd, units, round, neg, sum, add, sub, mul, div, ofInt, le}
+use lib.Ieee.{Float, nan, inf, fin, Format, binary32, prec, emax, low, unlike, up, down, odd, units, round, neg, sum, add, sub, mul, div, ofInt, ofBits, le}
 use lib.Ieee.Fits.{down-pos, and-l}
 use lib.Ieee.Exact.{HasValue, round-exact}
 use lib.Ieee.Order.{round-mono, transfer}
 use lib.Ieee.Back.{round-whole}
 use mir.Syntax.{w16}
 use mir.Val.{SFits}
+use Rattle.laws.specs.Numbers.{zero32}
 use Rattle.laws.proofs.Sign.{round-neg}
 use Rattle.bounds.specs.Within.{Within}
 use Rattle.bounds.specs.Size.{Size}
@@ -234,7 +235,15 @@ sized k x h = record { fact = go x h }
         le-trans (mul-le-mul-right (2 ^ 149) (le-trans (le-of-eq (sym (mul-one (m * up e)))) h))
         (le-of-eq (mul-right-comm (2 ^ k) (down e) (2 ^ 149) ∙ ap (λ (n : ℕ). n * down e) (sym (one-mul (2 ^ (k + 149)) ∙ pow-add 2 k 149))))
 
+-- n / 1 is at most b where a test says so
+pub one-over : (n b : ℕ) → T (leb n b) → n * 1 ≤ b
+one-over n b t = le-trans (le-of-eq (mul-one n)) (leb→le n b t)
+
 -- ---- whole numbers
+pub zero-size : (k q : ℕ) → Size k q zero32
+unfolding ofBits
+zero-size k q = record { fact = le-trans (le-of-eq (zero-mul (2 ^ 149))) zero-le }
+
 -- a width, cast to f32
 pub whole-at-least : (n : ℕ) → n ≤ 2 ^ 24 → AtLeast n (ofInt binary32 (pos n))
 unfolding ofInt

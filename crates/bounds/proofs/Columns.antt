@@ -1,15 +1,16 @@
--- What a butterfly makes of a column whose numbers have parts of at most 2 ^ k steps, those but the first twiddled to 2 of them. Assumes nothing.
+-- What a butterfly makes of a column of known size. Assumes nothing.
 use mathlib.Core.Path.{_≡_, refl}
 use mathlib.Core.Bool.{Bool, true, false, cond}
 use Prim.Native.Nat.{ℕ, _+_, _*_, _^_, _≤_, _<_}
 use native.Mathlib.Omega.{arith}
-use lib.Dec.{T, leb, ltb, leb→le, lit≤}
+use lib.Dec.{T, leb, ltb, leb→le, lit<, lit≤}
 use lib.Ieee.{Float, binary32, mul, ofBits}
 use Rattle.complex.specs.declared.Complex.{Complex}
 use Rattle.complex.specs.Complex as complex
 use Rattle.columns.specs.Column as column
 use Rattle.bounds.specs.Within.{none, also}
 use Rattle.bounds.specs.Size.{Size, Both, Small}
+use Rattle.bounds.specs.Growth.{Column, grow}
 use Rattle.bounds.proofs.Lists.{each-at}
 use Rattle.bounds.proofs.Bound.{room, plus, minus, less, product, more, raise}
 
@@ -60,26 +61,33 @@ module _ (k : ℕ) (K : k ≤ 250) where
   either false h g = g
 
   -- ---- the butterflies
-  pub by2 : (v : ℕ → Complex) → Both k 1 (v 0) → Both k 2 (v 1) → (q : ℕ) → q < 2 → Both (k + 2) 1 (column.two v q)
-  by2 v h a q Q = each-at {P = Both (k + 2) 1} _ q (also (up 2 (joined h a tt) tt) (also (up 2 (parted h a tt) tt) none)) Q
+  pub by2 : (v : ℕ → Complex) → Column k 2 v → (q : ℕ) → q < 2 → Both (k + grow 2) 1 (column.two v q)
+  by2 v c q Q =
+      let a = c .others 0 (lit< tt) in
+      each-at {P = Both (k + grow 2) 1} _ q (also (up (grow 2) (joined (c .first) a tt) tt) (also (up (grow 2) (parted (c .first) a tt) tt) none)) Q
 
-  pub by3 : (v : ℕ → Complex) {y : Complex} → Both k 1 (v 0) → Both k 2 (v 1) → Both k 2 (v 2) → Small y → (q : ℕ) → q < 3 → Both (k + 3) 1 (column.three y v q)
-  by3 v h a b g q Q =
+  pub by3 : (v : ℕ → Complex) → Column k 3 v → (y : Complex) → Small y → (q : ℕ) → q < 3 → Both (k + grow 3) 1 (column.three y v q)
+  by3 v c y g q Q =
+      let a = c .others 0 (lit< tt) in
+      let b = c .others 1 (lit< tt) in
       let s3 = joined a b tt in
       let s0 = scaled (parted a b tt) (g .i) tt in
-      let x = parted h (halved s3) tt in
-      each-at {P = Both (k + 3) 1} _ q (also (up 3 (joined h s3 tt) tt) (also (up 3 (left x s0 tt) tt) (also (up 3 (right x s0 tt) tt) none))) Q
+      let x = parted (c .first) (halved s3) tt in
+      each-at {P = Both (k + grow 3) 1} _ q (also (up (grow 3) (joined (c .first) s3 tt) tt) (also (up (grow 3) (left x s0 tt) tt) (also (up (grow 3) (right x s0 tt) tt) none))) Q
 
-  pub by4 : (v : ℕ → Complex) (inverse : Bool) → Both k 1 (v 0) → Both k 2 (v 1) → Both k 2 (v 2) → Both k 2 (v 3) → (q : ℕ) → q < 4 → Both (k + 3) 1 (column.four inverse v q)
-  by4 v inverse h a b c q Q =
-      let s5 = parted h b tt in
-      let s = joined h b tt in
-      let s3 = joined a c tt in
-      let s4 = parted a c tt in
+  pub by4 : (v : ℕ → Complex) → Column k 4 v → (inverse : Bool) → (q : ℕ) → q < 4 → Both (k + grow 4) 1 (column.four inverse v q)
+  by4 v c inverse q Q =
+      let a = c .others 0 (lit< tt) in
+      let b = c .others 1 (lit< tt) in
+      let d = c .others 2 (lit< tt) in
+      let s5 = parted (c .first) b tt in
+      let s = joined (c .first) b tt in
+      let s3 = joined a d tt in
+      let s4 = parted a d tt in
       let l = left s5 s4 tt in
       let r = right s5 s4 tt in
-      each-at {P = Both (k + 3) 1} _ q
-      (also (up 3 (joined s s3 tt) tt) (also (up 3 (either inverse l r) tt) (also (up 3 (parted s s3 tt) tt) (also (up 3 (either inverse r l) tt) none)))) Q
+      each-at {P = Both (k + grow 4) 1} _ q
+      (also (up (grow 4) (joined s s3 tt) tt) (also (up (grow 4) (either inverse l r) tt) (also (up (grow 4) (parted s s3 tt) tt) (also (up (grow 4) (either inverse r l) tt) none)))) Q
 
   -- parts of radix 5, from scratch 7 to 10 of 4 each
   mix : {s0 s7 s8 : Complex} {a b : Float} → Both k 1 s0 → Both k 4 s7 → Both k 4 s8 → Size 149 1 a → Size 149 1 b → Both k 9 (column.mix s0 s7 s8 a b)
@@ -93,16 +101,20 @@ module _ (k : ℕ) (K : k ≤ 250) where
   far h g a b =
       record { r = plus (room K3 tt) (minus (part (h .i) (b .i) tt)) (part (g .i) (a .i) tt); i = less (room K3 tt) (part (h .r) (b .i) tt) (part (g .r) (a .i) tt) }
 
-  -- where all that is known of a twiddle is that no part is above 1: 17 times, so 2 ^ 5
-  pub by5 : (v : ℕ → Complex) {ya yb : Complex} → Both k 1 (v 0) → Both k 2 (v 1) → Both k 2 (v 2) → Both k 2 (v 3) → Both k 2 (v 4) → Small ya → Small yb → (q : ℕ) → q < 5 → Both (k + 5) 1 (column.five ya yb v q)
-  by5 v h a b c d ga gb q Q =
-      let s7 = joined a d tt in
-      let s10 = parted a d tt in
-      let s8 = joined b c tt in
-      let s9 = parted b c tt in
+  pub by5 : (v : ℕ → Complex) → Column k 5 v → (ya yb : Complex) → Small ya → Small yb → (q : ℕ) → q < 5 → Both (k + grow 5) 1 (column.five ya yb v q)
+  by5 v c ya yb ga gb q Q =
+      let h = c .first in
+      let a = c .others 0 (lit< tt) in
+      let b = c .others 1 (lit< tt) in
+      let d = c .others 2 (lit< tt) in
+      let e = c .others 3 (lit< tt) in
+      let s7 = joined a e tt in
+      let s10 = parted a e tt in
+      let s8 = joined b d tt in
+      let s9 = parted b d tt in
       let s5 = mix h s7 s8 (ga .r) (gb .r) in
       let s6 = near s10 s9 ga gb in
       let s11 = mix h s7 s8 (gb .r) (ga .r) in
       let s12 = far s10 s9 ga gb in
-      each-at {P = Both (k + 5) 1} _ q
-      (also (up 5 (joined h (joined s7 s8 tt) tt) tt) (also (up 5 (parted s5 s6 tt) tt) (also (up 5 (joined s11 s12 tt) tt) (also (up 5 (parted s11 s12 tt) tt) (also (up 5 (joined s5 s6 tt) tt) none))))) Q
+      each-at {P = Both (k + grow 5) 1} _ q
+      (also (up (grow 5) (joined h (joined s7 s8 tt) tt) tt) (also (up (grow 5) (parted s5 s6 tt) tt) (also (up (grow 5) (joined s11 s12 tt) tt) (also (up (grow 5) (parted s11 s12 tt) tt) (also (up (grow 5) (joined s5 s6 tt) tt) none))))) Q

@@ -1,11 +1,10 @@
 -- The DCT-IV of values of at most 2 ^ k steps: the FFT's growth, and 2 ^ 3 beside it. Assumes nothing.
-use mathlib.Core.Path.{_≡_, sym, _∙_, subst}
+use mathlib.Core.Path.{_≡_, sym, subst}
 use mathlib.Core.Bool.{Bool, true, false, cond}
 use mathlib.Core.List.{List}
 use Prim.Native.Nat.{ℕ, _+_, _-_, _*_, _/_, _%_, _≤_, _<_}
-use native.Mathlib.Nat.{one-mul}
 use native.Mathlib.Omega.{arith}
-use lib.Dec.{T, eqb, lit<, lit≤}
+use lib.Dec.{T, eqb, lit≤}
 use lib.ListN.{length, getD}
 use lib.Ieee.{Float, nan, binary32, mul, neg, ofBits}
 use Rattle.laws.proofs.Lists.{getD-tab}
@@ -13,7 +12,7 @@ use Rattle.complex.specs.declared.Complex.{Complex}
 use Rattle.complex.specs.Complex.{times, at}
 use Rattle.config.specs.Config.{among, fftSizes}
 use Rattle.twiddles.specs.Twiddles.{twiddle, dctTwiddle}
-use Rattle.kf_work.specs.Work.{plan, span, spectrum, reals, imaginaries}
+use Rattle.kf_work.specs.Work.{plan, spectrum, reals, imaginaries}
 use Rattle.kf_work.proofs.Sizes.{sized}
 use Rattle.dct_steps.specs.Dct.{point, double, placed, dctBy, dctIv}
 use Rattle.bounds.specs.Within.{Each}
@@ -22,7 +21,7 @@ use Rattle.bounds.specs.Growth.{growth}
 use Rattle.bounds.proofs.Bound.{room, minus, product}
 use Rattle.bounds.proofs.Columns.{turned, up}
 use Rattle.bounds.proofs.Lists.{each-at, each-tab}
-use Rattle.bounds.proofs.Work.{work-bound}
+use Rattle.bounds.proofs.Work.{transform-bound}
 use Rattle.bounds.proofs.Tables.{fft-small, dct-small}
 
 double-size : Size 150 1 double
@@ -67,7 +66,7 @@ module _ (n : ℕ) (s : T (among fftSizes n)) (k : ℕ) (K : k + 3 + growth (pla
   results i I =
       let p = sized n s in
       twiddled (omega arith) I
-      (work-bound n (twiddle n false) false (fft-small n s) (k + 1) input inputs (plan n) (p .plan-radixes) 1 0 (lit< tt) (one-mul (span (plan n)) ∙ p .whole) (omega arith) i (subst (λ (m : ℕ). i < m) (sym (p .whole)) I))
+      (transform-bound n (twiddle n false) false (fft-small n s) (k + 1) input inputs (plan n) (p .plan-radixes) (p .whole) (omega arith) i I)
 
   place : (i : ℕ) → i < length buf → Size (top + 1 + 1) 1 (placed z (length buf) i)
   place i I = go (eqb (i % 2) 0)

@@ -18,7 +18,7 @@ use Rattle.analysis_steps.specs.Energy.{sumOf, share, energy, bandOf, energies}
 use Rattle.analysis.specs.Analysis.{energiesOf}
 use Rattle.bounds.specs.Within.{Within, Each, none, also}
 use Rattle.bounds.specs.Size.{Size}
-use Rattle.bounds.proofs.Bound.{Room, room, Plus, round-plus, plus, product, AtLeast, quotient, part-pos, more, raise, plain, sized, whole-at-least, whole-plus}
+use Rattle.bounds.proofs.Bound.{Room, room, Plus, round-plus, plus, product, AtLeast, quotient, part-pos, more, raise, plain, sized, zero-size, whole-at-least, whole-plus}
 use Rattle.bounds.proofs.Lists.{each-take, each-drop, each-tab}
 
 -- ---- the sign plus goes through squares, quotients and sums
@@ -74,9 +74,9 @@ record Part (k q : ℕ) (x : Float) : Type 0 where
 abbrev pub Energy : ℕ → Float → Type 0
 Energy k x = T (passes7 x) × Within (2 ^ (2 * k + 1)) 1 x
 
-none-part : (k : ℕ) → Part k 0 zero32
+zero-part : (k q : ℕ) → Part k q zero32
 unfolding ofBits
-none-part k = record { size = record { fact = le-of-eq (zero-mul (2 ^ 149) ∙ sym (ap (λ (n : ℕ). n * 1) (zero-mul (2 ^ k)))) }; sign = refl }
+zero-part k q = record { size = zero-size k q; sign = refl }
 
 module _ (k : ℕ) (K : k ≤ 60) where
   -- 2 ^ 16 of these steps are the square of 2 ^ k
@@ -126,11 +126,11 @@ module _ (k : ℕ) (K : k ≤ 60) where
       let is : q * n ≡ 2 ^ 16 / n * n + n = add-mul (2 ^ 16 / n) 1 n ∙ ap (λ (m : ℕ). 2 ^ 16 / n * n + m) (one-mul n) in
       let over : 2 ^ 16 ≤ q * n = omega (arith, is, div-add-mod' (2 ^ 16) n, mod-lt (2 ^ 16) N) in
       let under : q * n ≤ 2 ^ 17 = omega (arith, is, div-add-mod' (2 ^ 16) n) in
-      whole (sum-part n q N most over under 0 zero32 xs (none-part unit) l (le-trans (le-of-eq (zero-add (length xs * q) ∙ ap (λ (m : ℕ). m * q) e ∙ mul-comm n q)) under))
+      whole (sum-part n q N most over under 0 zero32 xs (zero-part unit 0) l (le-trans (le-of-eq (zero-add (length xs * q) ∙ ap (λ (m : ℕ). m * q) e ∙ mul-comm n q)) under))
 
   band-bound : (xs : List Float) → length xs ≤ 2 ^ 16 → Each (Within (2 ^ k) 1) xs → Energy k (energy xs)
   unfolding energy
-  band-bound [] most l = whole (record { size = more (2 ^ 17) (lit≤ tt) (none-part unit .size); sign = none-part unit .sign })
+  band-bound [] most l = whole (zero-part unit (2 ^ 17))
   band-bound (x ∷ xs) most l = band (suc (length xs)) (x ∷ xs) refl (omega arith) most l
 
   pub energies-bound : (c : ℕ) → T (valid c) → (lines : List Float) → length lines ≡ nf c → Each (Within (2 ^ k) 1) lines → Each (Energy k) (energiesOf c lines)

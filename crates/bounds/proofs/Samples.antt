@@ -1,10 +1,9 @@
 -- The places, memory and samples of any lines that pass 6. Assumes nothing.
 use mathlib.Core.Path.{_≡_, refl}
 use mathlib.Core.List.{List, _++_, map, reverse}
-use Prim.Native.Nat.{ℕ, _+_, _-_, _*_, _^_, zero-le}
-use native.Mathlib.Nat.{le-trans, le-of-eq, mul-one, zero-mul}
+use Prim.Native.Nat.{ℕ, _+_, _-_, _*_, _^_}
 use native.Mathlib.Omega.{arith}
-use lib.Dec.{T, leb→le, lit≤}
+use lib.Dec.{T, lit≤}
 use lib.ListN.{length}
 use lib.Ieee.{Float, nan, inf, fin, up, down, binary32, add, mul, neg, ofBits}
 use Rattle.laws.specs.Numbers.{zero32}
@@ -19,7 +18,7 @@ use Rattle.synthesis_frame.specs.Frame.{places}
 use Rattle.synthesis_samples.specs.Samples.{placesOf, samplesOf, memoryOf}
 use Rattle.bounds.specs.Within.{Within, Each}
 use Rattle.bounds.specs.Size.{Size}
-use Rattle.bounds.proofs.Bound.{room, plus, minus, product, more, sized}
+use Rattle.bounds.proofs.Bound.{room, plus, minus, product, more, sized, one-over, zero-size}
 use Rattle.bounds.proofs.Lists.{each-append, each-take, each-drop, each-replicate, each-reverse, each-map, each-zip, each-weaken}
 use Rattle.bounds.proofs.Tables.{plan-grows, gain-size, entries-size}
 use Rattle.bounds.proofs.Dct.{dct-bound}
@@ -29,11 +28,7 @@ pub six-within : (x : Float) → T (passes6 x) → Within (2 ^ 60) 1 x
 unfolding passes6
 six-within nan t = t
 six-within (inf s) t = t
-six-within (fin s m e) t = le-trans (le-of-eq (mul-one (m * up e))) (leb→le (m * up e) (2 ^ 60 * down e) t)
-
-pub zero-size : (k : ℕ) → Size k 1 zero32
-unfolding ofBits
-zero-size k = record { fact = le-trans (le-of-eq (zero-mul (2 ^ 149))) zero-le }
+six-within (fin s m e) t = one-over (m * up e) (2 ^ 60 * down e) t
 
 pub size-finite : {k q : ℕ} (x : Float) → Size k q x → T (finite x)
 unfolding finite
@@ -55,7 +50,7 @@ module _ (c : ℕ) (v : T (valid c)) where
       let s = sound c v in
       let g = plan-grows c v in
       let h = half c in
-      let b : Each (Size 209 1) (padded (2 * h) x) = each-append (each-weaken (λ y t. sized 60 y (six-within y t)) a) (each-replicate (2 * h - length x) zero32 (zero-size 209)) in
+      let b : Each (Size 209 1) (padded (2 * h) x) = each-append (each-weaken (λ y t. sized 60 y (six-within y t)) a) (each-replicate (2 * h - length x) zero32 (zero-size 209 1)) in
       let d = dct-bound h (s .fft-size) 209 (omega (arith, g)) (padded (2 * h) x) (length-padded (2 * h) x (omega (arith, e, s .ne-le, s .even))) b in
       each-zip (mul binary32) (λ x y p q. product (room (lit≤ tt) tt) refl p q)
       (each-map {Q = Size 222 1} (λ (y : Float). mul binary32 y (gain (nf c))) (λ y u. product (room (lit≤ tt) tt) (omega (arith, g)) u (gain-size c v)) (unfolded-each h d))

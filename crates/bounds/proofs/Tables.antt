@@ -3,7 +3,6 @@ use mathlib.Core.Path.{_≡_, sym, subst}
 use mathlib.Core.Bool.{Bool, true, false, _&&_}
 use mathlib.Core.List.{List, [], _∷_}
 use Prim.Native.Nat.{ℕ, _-_, _*_, _^_, _≤_, _<_}
-use native.Mathlib.Nat.{le-trans, le-of-eq, mul-one}
 use lib.Dec.{T, leb, leb→le}
 use lib.ListN.{length, getD}
 use lib.Ieee.{Float, nan, inf, fin, up, down, binary32, ofBits, ofFields, odd}
@@ -24,7 +23,7 @@ use Rattle.kf_work.specs.Work.{plan}
 use Rattle.bounds.specs.Within.{Within, Each, none, also}
 use Rattle.bounds.specs.Size.{Size, upto, Small}
 use Rattle.bounds.specs.Growth.{growth, tame}
-use Rattle.bounds.proofs.Bound.{sized}
+use Rattle.bounds.proofs.Bound.{sized, one-over}
 use Rattle.bounds.proofs.Lists.{each-at, each-of}
 
 size-of : (k : ℕ) (x : Float) → T (upto k x) → Size k 1 x
@@ -97,7 +96,7 @@ entry-size c v k h = sized 1 (ofBits binary32 (getD (windows.window c) k 0)) (go
     go : (x : Float) → T (windows.small x) → Within (2 ^ 1) 1 x
     go nan t = t
     go (inf s) t = t
-    go (fin s m e) t = le-trans (le-of-eq (mul-one (m * up e))) (leb→le (m * up e) (2 * down e) t)
+    go (fin s m e) t = one-over (m * up e) (2 * down e) t
 
 pub entries-size : (c : ℕ) → T (valid c) → Each (λ b. Size 150 1 (ofBits binary32 b)) (windows.window c)
 entries-size c v = each-of 0 (windows.window c) (λ k h. entry-size c v k (subst (λ (n : ℕ). k < n) (rule .window-length c v) h))

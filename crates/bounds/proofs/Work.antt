@@ -8,12 +8,11 @@ use native.Mathlib.Omega.{arith}
 use lib.Dec.{T, lit<}
 use borrow.Author.Tests.{lt-ltb}
 use Rattle.complex.specs.declared.Complex.{Complex}
-use Rattle.complex.specs.Complex.{times}
 use Rattle.butterflies.specs.Butterflies.{stage, twist, column2, column3, column4, column5}
 use Rattle.kf_work.specs.Work.{span, planned, column, work}
 use Rattle.kf_work.proofs.Plan.{split, inner-positive, sub-nums}
 use Rattle.bounds.specs.Size.{Both, Small}
-use Rattle.bounds.specs.Growth.{grow, growth}
+use Rattle.bounds.specs.Growth.{Column, grow, growth}
 use Rattle.bounds.proofs.Columns.{turned, by2, by3, by4, by5}
 
 -- ---- numbers of a stage
@@ -33,12 +32,14 @@ place-in : (k m p q : ℕ) → 0 < m → q < p → k % m + m * q < p * m
 place-in k m p q M Q = omega (arith, mod-lt k M, mul-le-mul-left m Q, mul-suc m q, mul-comm m p)
 
 module _ (N : ℕ) (t : ℕ → Complex) (inverse : Bool) (small : (i : ℕ) → i < N → Small (t i)) where
-  -- ---- a stage's column: what its butterfly is handed
-  module _ (k : ℕ) (K : k ≤ 250) (p s m j : ℕ) (S : 0 < s) (e : s * (p * m) ≡ N) (J : j < m) (c : ℕ → Complex) (C : (q : ℕ) → q < p → Both k 1 (c q)) where
-    twiddled : (q : ℕ) → q < p → Both k 2 (times (c q) (t (q * (j * s))))
-    twiddled q Q = turned k K refl (C q Q) (small (q * (j * s)) (turn-in q j m p s N J Q S e))
+  -- ---- a stage's column
+  module _ (p s m j : ℕ) (S : 0 < s) (e : s * (p * m) ≡ N) (J : j < m) where
+    -- as its butterfly is handed it
+    twisted : (k : ℕ) → k ≤ 250 → (c : ℕ → Complex) → 0 < p → ((q : ℕ) → q < p → Both k 1 (c q)) → Column k p (twist t (j * s) c)
+    twisted k K c P C =
+        record { first = C 0 P; others = λ q Q. turned k K refl (C (suc q) Q) (small (suc q * (j * s)) (turn-in (suc q) j m p s N J Q S e)) }
 
-    -- a p-th of a turn, and two
+    -- a p-th of a turn, and more
     turn : (q : ℕ) → q < p → Small (t (q * (s * m)))
     turn q Q = small (q * (s * m)) (lt-of-lt-of-le (mul-lt-mul-of-pos-right Q (mul-pos S (lt-of-le-of-lt zero-le J))) (le-of-eq (mul-left-comm p s m ∙ e)))
 
@@ -50,21 +51,16 @@ module _ (N : ℕ) (t : ℕ → Complex) (inverse : Bool) (small : (i : ℕ) →
   unfolding column column2 column3 column4 column5
   column-bound k K zero s m j l u S e J c C = absurd (omega arith)
   column-bound k K (suc zero) s m j l u S e J c C = absurd (omega arith)
-  column-bound k K (suc (suc zero)) s m j l u S e J c C = by2 k K (twist t (j * s) c) (C 0 (lit< tt)) (twiddled k K 2 s m j S e J c C 1 (lit< tt))
-  column-bound k K (suc (suc (suc zero))) s m j l u S e J c C =
-      let v = twiddled k K 3 s m j S e J c C in
-      by3 k K (twist t (j * s) c) (C 0 (lit< tt)) (v 1 (lit< tt)) (v 2 (lit< tt)) (one-turn k K 3 s m j S e J c C (lit< tt))
-  column-bound k K (suc (suc (suc (suc zero)))) s m j l u S e J c C =
-      let v = twiddled k K 4 s m j S e J c C in
-      by4 k K (twist t (j * s) c) inverse (C 0 (lit< tt)) (v 1 (lit< tt)) (v 2 (lit< tt)) (v 3 (lit< tt))
+  column-bound k K (suc (suc zero)) s m j l u S e J c C = by2 k K (twist t (j * s) c) (twisted 2 s m j S e J k K c (lit< tt) C)
+  column-bound k K (suc (suc (suc zero))) s m j l u S e J c C = by3 k K (twist t (j * s) c) (twisted 3 s m j S e J k K c (lit< tt) C) (t (s * m)) (one-turn 3 s m j S e J (lit< tt))
+  column-bound k K (suc (suc (suc (suc zero)))) s m j l u S e J c C = by4 k K (twist t (j * s) c) (twisted 4 s m j S e J k K c (lit< tt) C) inverse
   column-bound k K (suc (suc (suc (suc (suc zero))))) s m j l u S e J c C =
-      let v = twiddled k K 5 s m j S e J c C in
-      by5 k K (twist t (j * s) c) (C 0 (lit< tt)) (v 1 (lit< tt)) (v 2 (lit< tt)) (v 3 (lit< tt)) (v 4 (lit< tt)) (one-turn k K 5 s m j S e J c C (lit< tt)) (turn k K 5 s m j S e J c C 2 (lit< tt))
+      by5 k K (twist t (j * s) c) (twisted 5 s m j S e J k K c (lit< tt) C) (t (s * m)) (t (2 * (s * m))) (one-turn 5 s m j S e J (lit< tt)) (turn 5 s m j S e J 2 (lit< tt))
   column-bound k K (suc (suc (suc (suc (suc (suc p)))))) s m j l u S e J c C = absurd (omega arith)
 
   -- ---- the whole FFT, of numbers x whose parts are at most 2 ^ k steps
   module _ (k : ℕ) (x : ℕ → Complex) (bound : (i : ℕ) → i < N → Both k 1 (x i)) where
-    pub work-bound : (ps : List ℕ) → T (planned ps) → (s o : ℕ) → o < s → s * span ps ≡ N → k + growth ps ≤ 250 → (i : ℕ) → i < span ps → Both (k + growth ps) 1 (work t inverse x ps s o i)
+    work-bound : (ps : List ℕ) → T (planned ps) → (s o : ℕ) → o < s → s * span ps ≡ N → k + growth ps ≤ 250 → (i : ℕ) → i < span ps → Both (k + growth ps) 1 (work t inverse x ps s o i)
     unfolding work stage planned
     work-bound [] h s o O e K i I = subst (λ (n : ℕ). Both n 1 (x o)) (sym (add-zero k)) (bound o (lt-of-lt-of-le O (le-of-eq (sym (mul-one s) ∙ e))))
     work-bound (p ∷ []) h s o O e K i I = absurd h
@@ -77,3 +73,7 @@ module _ (N : ℕ) (t : ℕ → Complex) (inverse : Bool) (small : (i : ℕ) →
         subst (λ (n : ℕ). Both n 1 (work t inverse x (p ∷ m ∷ ps) s o i)) (add-assoc k (growth ps) (grow p))
         (rw (lt-ltb i (p * m) I)
         (column-bound (k + growth ps) (omega arith) p s m (i % m) (d .at-least) (d .at-most) (lt-of-le-of-lt zero-le O) e (mod-lt i M) _ (λ q Q. inner (i % m + m * q) (place-in i m p q M Q)) (i / m) (part-in i m p I)))
+
+    -- from the first input on, and all of them
+    pub transform-bound : (ps : List ℕ) → T (planned ps) → span ps ≡ N → k + growth ps ≤ 250 → (i : ℕ) → i < N → Both (k + growth ps) 1 (work t inverse x ps 1 0 i)
+    transform-bound ps h e K i I = work-bound ps h 1 0 (lit< tt) (one-mul (span ps) ∙ e) K i (subst (λ (m : ℕ). i < m) (sym e) I)

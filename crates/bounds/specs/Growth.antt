@@ -1,5 +1,5 @@
 -- How much the transform can make its numbers grow, once for every radix, plan and configuration. Definitions only.
-use Prim.Native.Nat.{ℕ, _+_, _-_, _*_, _≤_, _<_}
+use Prim.Native.Nat.{ℕ, suc, _+_, _-_, _*_, _≤_, _<_}
 use mathlib.Core.Path.{_≡_}
 use mathlib.Core.Bool.{Bool, false, cond, _&&_}
 use mathlib.Core.List.{List, [], _∷_}
@@ -7,6 +7,7 @@ use lib.Dec.{T, leb, eqb}
 use lib.ListN.{length}
 use lib.Ieee.{Float}
 use Rattle.complex.specs.declared.Complex.{Complex}
+use Rattle.columns.specs.Column.{two, three, four, five}
 use Rattle.config.specs.Config.{valid, nf, half, among, fftSizes}
 use Rattle.twiddles.specs.Twiddles.{twiddle, dctTwiddle, gain}
 use Rattle.kf_work.specs.Work.{plan, span, planned, column, work}
@@ -14,7 +15,12 @@ use Rattle.dct_steps.specs.Dct.{dctIv}
 use Rattle.bounds.specs.Within.{Each}
 use Rattle.bounds.specs.Size.{Size, upto, Both, Small}
 
--- the parts of a column's numbers grow 2^2 times at most in radix 2, 2^3 in 3 and 4, 2^5 in 5
+-- a column as a butterfly is handed it: the first number's parts are at most 2^k steps, those of the others, which are twiddled, twice that
+pub record Column (k p : ℕ) (v : ℕ → Complex) : Type 0 where
+  pub first : Both k 1 (v 0)
+  pub others : (q : ℕ) → suc q < p → Both k 2 (v (suc q))
+
+-- and comes to 2^(k + grow): part by part, 3 times as much in radix 2, 7 in 3 and 4, 17 in 5
 abbrev pub grow : ℕ → ℕ
 grow p = cond (eqb p 2) 2 (cond (eqb p 5) 5 3)
 
@@ -32,6 +38,11 @@ pub record Growth : Type 0 where
   -- no part of a twiddle that the DCT or its FFT reads is above 1
   pub fft-small : (n : ℕ) → T (among fftSizes n) → (i : ℕ) → i < n → Small (twiddle n false i)
   pub dct-small : (n : ℕ) → T (among fftSizes n) → (i : ℕ) → i < n → Small (dctTwiddle n i)
+  -- the butterflies
+  pub twos : (k : ℕ) → k ≤ 250 → (v : ℕ → Complex) → Column k 2 v → (q : ℕ) → q < 2 → Both (k + grow 2) 1 (two v q)
+  pub threes : (k : ℕ) → k ≤ 250 → (v : ℕ → Complex) → Column k 3 v → (y : Complex) → Small y → (q : ℕ) → q < 3 → Both (k + grow 3) 1 (three y v q)
+  pub fours : (k : ℕ) → k ≤ 250 → (v : ℕ → Complex) → Column k 4 v → (inverse : Bool) → (q : ℕ) → q < 4 → Both (k + grow 4) 1 (four inverse v q)
+  pub fives : (k : ℕ) → k ≤ 250 → (v : ℕ → Complex) → Column k 5 v → (ya yb : Complex) → Small ya → Small yb → (q : ℕ) → q < 5 → Both (k + grow 5) 1 (five ya yb v q)
   -- a column of radix p, with n twiddles so small: from parts of at most 2^k steps to 2^grow times that
   pub columns : (n : ℕ) (t : ℕ → Complex) (inverse : Bool) → ((i : ℕ) → i < n → Small (t i))
       → (k : ℕ) → k ≤ 250 → (p s m j : ℕ) → 2 ≤ p → p ≤ 5 → 0 < s → s * (p * m) ≡ n → j < m → (c : ℕ → Complex) → ((q : ℕ) → q < p → Both k 1 (c q))

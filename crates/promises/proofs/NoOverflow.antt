@@ -1,15 +1,16 @@
 -- Document 02 §13: a channel's samples stay 16-bit and its memory at most 2^74, whatever is called; and of such an array the laws of bounds hold. Assumes nothing.
-use Prim.Native.Nat.{ℕ, zero, suc, _-_}
+use Prim.Native.Nat.{ℕ, zero, suc, _-_, _*_, _≤_, _<_}
 use native.Mathlib.Nat.{le-antisymm}
 use native.Mathlib.Omega.{arith}
 use mathlib.Core.Path.{_≡_, refl, sym, ap, subst}
 use mathlib.Core.Bool.{Bool, true, false, not, cond}
 use mathlib.Core.Option.{some}
 use mathlib.Core.List.{List, [], _∷_}
-use lib.IntN.{ℤ, pos}
-use lib.Dec.{T, eqb, ltb, nltb→le, lit<, lit≤}
+use lib.IntN.{ℤ, pos, negsuc}
+use lib.Dec.{T, eqb, ltb, ltb→lt, nltb→le, lit<, lit≤}
 use lib.ListN.{length, getD, replicate, length-replicate}
 use lib.Ieee.{Float, nan}
+use lib.Ieee.Bits.{is-true}
 use borrow.Author.Tests.{eq-eqb}
 use Rattle.laws.specs.Lists.{first}
 use Rattle.laws.specs.Numbers.{zero32}
@@ -26,6 +27,8 @@ use Rattle.analysis.proofs.Frames.{says-0, passed}
 use Rattle.synthesis.specs.declared.Channel as synthesisChannel
 use Rattle.synthesis.specs.Synthesis as synthesisCalls
 use Rattle.synthesis.proofs.Frames as synthesisFrames
+use Rattle.frame_file.specs.File as file
+use Rattle.frame_file.specs.File.{signed}
 use Rattle.listing.specs.Listing as listing
 use Rattle.loudest.specs.Loudest.{heard, paper}
 use Rattle.loudest.proofs.Rank.{first-le, first-all}
@@ -33,13 +36,14 @@ use Rattle.bounds.specs.Within as within
 use Rattle.bounds.specs.Within.{Each}
 use Rattle.bounds.proofs.Lists.{each-append, each-take, each-drop, each-replicate, each-tab, each-at, each-or, each-of, each-weaken}
 use Rattle.bounds.specs.Size.{Size}
+use Rattle.bounds.proofs.Bound.{zero-size}
 use Rattle.bounds.proofs.Lines.{length-mdct, lines-bound}
 use Rattle.bounds.proofs.Energies.{energies-bound}
-use Rattle.bounds.proofs.Samples.{six-within, zero-size, size-finite, memory-bound, samples-bound}
+use Rattle.bounds.proofs.Samples.{six-within, size-finite, memory-bound, samples-bound}
 use Rattle.promises.specs.Sequence.{Call, clears, after}
 use Rattle.promises.specs.AnalysisChannel.{analysis}
 use Rattle.promises.specs.SynthesisChannel.{synthesis}
-use Rattle.promises.specs.NoOverflow.{Sample, Sampled, Line, Energy, Finite, FromClear, OnAny, NoOverflow}
+use Rattle.promises.specs.NoOverflow.{Sample, Sampled, Finite, Lines, Energies, Hears, FromClear, OnAny, NoOverflow}
 use Rattle.promises.proofs.Kept.{kept}
 
 -- ---- analysis: the samples are 16-bit
@@ -83,69 +87,74 @@ accepted P h a s x i e = go (number (a .config) x) refl e
 from-clear : (P : Given → Type 0) → OnAny P → FromClear P
 from-clear P h c a e qs s x i n = h (after analysis a qs) (kept analysis Held Sampled clear-held frame-held c a e s) x i n
 
-abbrev Lines : Given → Type 0
-Lines g = Each Line (g .lines)
-
 lines-each : Taken Lines
 unfolding linesOf
 lines-each a v s x i = lines-bound (a .config) v _ (buffer-each (a .config) (past-each a s) i)
-
-abbrev Energies : Given → Type 0
-Energies g = Each Energy (g .energies)
 
 energies-each : Taken Energies
 unfolding linesOf
 energies-each a v s x i = energies-bound 30 (lit≤ tt) (a .config) v _ (length-mdct (a .config) v (timeBuffer (a .config) (held a) (x .input))) (lines-each a v s x i)
 
-is-true : (b : Bool) → T b → b ≡ true
-is-true true t = refl
-is-true false t = absurd t
-
 -- the loudest band takes them: as many as the configuration has bands, and all pass 7
-hears : (c : ℕ) → T (valid c) → (l : List Float) → Each Energy (energiesOf c l) → paper (heard (energiesOf c l)) .number ≡ 0
+hears : (c : ℕ) → T (valid c) → (l : List Float) → Each (λ x. T (passes7 x)) (energiesOf c l) → paper (heard (energiesOf c l)) .number ≡ 0
 unfolding heard energiesOf energies
 hears c v l a =
     let n : length (energiesOf c l) ≡ nb c = length-tab (nb c) _ in
-    let all = first-none passes7 (energiesOf c l) nan (λ k h. is-true (passes7 (getD (energiesOf c l) k nan)) (each-at nan k a h .0)) in
+    let all = first-none passes7 (energiesOf c l) nan (λ k h. is-true (passes7 (getD (energiesOf c l) k nan)) (each-at nan k a h)) in
     let some : among bandCounts (length (energiesOf c l)) ≡ true = is-true _ (subst (λ (m : ℕ). T (among bandCounts m)) (sym n) (sound c v .band-count)) in
     rw (some, eq-eqb (first passes7 (energiesOf c l)) (length (energiesOf c l)) (sym all))
 
-abbrev Hears : Given → Type 0
-Hears g = paper (heard (g .energies)) .number ≡ 0
-
 hears-each : Taken Hears
-hears-each a v s x i = hears (a .config) v (linesOf (a .config) (held a) (x .input)) (energies-each a v s x i)
+hears-each a v s x i = hears (a .config) v (linesOf (a .config) (held a) (x .input)) (each-weaken (λ x h. h .0) (energies-each a v s x i))
 
--- ---- the listing's call of a whole frame is accepted
-takes : (a : Channel) → T (valid (a .config)) → (x : List ℤ) → length x ≡ nf (a .config) → listing.framed a x .0 .number ≡ 0
-unfolding frames
-takes a v x e =
+-- ---- the listing's frames
+sample-signed : (n : ℕ) → Sample (signed n)
+unfolding signed
+sample-signed n = go (ltb n 0x8000) (ltb→lt n 0x8000) (nltb→le n 0x8000)
+  where
+    go : (b : Bool) → (T b → n < 0x8000) → (T (not b) → 0x8000 ≤ n) → Sample (cond b (pos n) (negsuc (0xffff - n)))
+    go true l g = record { sfits = l tt }
+    go false l g = let h = g tt in record { sfits = omega arith }
+
+-- what a call on n bytes' samples is lent
+abbrev lends : Channel → List ℕ → Lent
+lends a f = lent (file.samples (nf (a .config)) f) (listing.zeros (nf (a .config))) (listing.zeros (nb (a .config)))
+
+lends-samples : (a : Channel) (f : List ℕ) → Each Sample (lends a f .input)
+unfolding file.samples
+lends-samples a f = each-tab (nf (a .config)) _ (λ k l. sample-signed (file.short f (2 * k)))
+
+takes : (a : Channel) → T (valid (a .config)) → (f : List ℕ) → frames a (lends a f) .0 .number ≡ 0
+unfolding frames file.samples
+takes a v f =
     let c = a .config in
-    let n : number c (lent x (listing.zeros (nf c)) (listing.zeros (nb c))) ≡ 0 =
-    sym (says-0 c (lent x (listing.zeros (nf c)) (listing.zeros (nb c))) refl (ap not (is-true (valid c) v)) e (length-replicate (nf c) zero32) (length-replicate (nb c) zero32)) in
-    ap (λ (m : ℕ). framed m a (lent x (listing.zeros (nf c)) (listing.zeros (nb c))) .0 .number) n
+    let n : 0 ≡ number c (lends a f) = says-0 c (lends a f) refl (ap not (is-true (valid c) v)) (length-tab (nf c) _) (length-replicate (nf c) zero32) (length-replicate (nb c) zero32) in
+    ap (λ (m : ℕ). framed m a (lends a f) .0 .number) (sym n)
 
 -- ---- synthesis: the memory is at most 2^74
 abbrev Kept : synthesisChannel.Channel → Type 0
 Kept a = Each (Size 223 1) (a .memory)
 
--- what a call that is not refused has passed, its lines' test among it
+-- the lines of a call that is not refused pass: its test of them comes last
 passing : (c : ℕ) (x : synthesisCalls.Lent) → synthesisCalls.number c x ≡ 0 → Each (λ y. T (passes6 y)) (x .lines)
 passing c x e =
     let l = x .lines in
-    let all : first passes6 l ≡ length l = le-antisymm (first-le passes6 l) (nltb→le (first passes6 l) (length l) (last (valid c) (eqb (length l) (ne c)) (eqb (length (x .samples)) (nf c)) (ltb (first passes6 l) (length l)) e)) in
+    let lengths = later (not (eqb (length (x .samples)) (nf c))) 3 (later (not (eqb (length l) (ne c))) 2 (later (not (valid c)) 0 e)) in
+    let t : T (not (ltb (first passes6 l) (length l))) = passes (ltb (first passes6 l) (length l)) 5 lengths in
+    let all : first passes6 l ≡ length l = le-antisymm (first-le passes6 l) (nltb→le (first passes6 l) (length l) t) in
     each-of nan l (λ k h. subst T (sym (first-all passes6 l nan all k h)) tt)
   where
-    last : (p q r s : Bool) → _≡_ {A = ℕ} (cond (not p) 1 (cond (not q) 3 (cond (not r) 4 (cond s 6 0)))) 0 → T (not s)
-    last true true true true e = omega arith
-    last true true true false e = tt
-    last true true false s e = absurd (omega arith)
-    last true false r s e = absurd (omega arith)
-    last false q r s e = absurd (omega arith)
+    later : (b : Bool) (k : ℕ) {v : ℕ} → cond b (suc k) v ≡ 0 → v ≡ 0
+    later true k e = absurd (omega arith)
+    later false k e = e
+
+    passes : (b : Bool) (k : ℕ) → cond b (suc k) 0 ≡ 0 → T (not b)
+    passes true k e = absurd (omega arith)
+    passes false k e = tt
 
 clear-kept : (c : ℕ) → Kept (synthesisCalls.cleared c .channel)
 unfolding synthesisCalls.cleared
-clear-kept c = elim (valid c) as (λ b. Kept (synthesisCalls.clearing b c .channel)) [ true ↦ each-replicate 300 zero32 (zero-size 223) | false ↦ each-replicate 300 zero32 (zero-size 223) ]
+clear-kept c = elim (valid c) as (λ b. Kept (synthesisCalls.clearing b c .channel)) [ true ↦ each-replicate 300 zero32 (zero-size 223 1) | false ↦ each-replicate 300 zero32 (zero-size 223 1) ]
 
 module _ (a : synthesisChannel.Channel) (x : synthesisCalls.Lent) (h : Kept a) where
   by-number : (n : ℕ) → synthesisCalls.number (a .config) x ≡ n → Kept (synthesisCalls.framed n a x .1)
@@ -153,14 +162,14 @@ module _ (a : synthesisChannel.Channel) (x : synthesisCalls.Lent) (h : Kept a) w
   by-number zero e =
       let c = a .config in
       let p = synthesisFrames.passed c x e in
-      each-append (memory-bound c (p .is-valid) (x .lines) (p .lines-is) (passing c x e)) (each-replicate (300 - (nf c - z c)) zero32 (zero-size 223))
+      each-append (memory-bound c (p .is-valid) (x .lines) (p .lines-is) (passing c x e)) (each-replicate (300 - (nf c - z c)) zero32 (zero-size 223 1))
   by-number (suc n) e = h
 
   sampled : (n : ℕ) → synthesisCalls.number (a .config) x ≡ n → synthesisCalls.framed n a x .0 .number ≡ 0 → Each Finite (synthesisCalls.framed n a x .0 .samples)
   sampled zero e f =
       let c = a .config in
       let p = synthesisFrames.passed c x e in
-      let past = each-tab (nf c - z c) (λ k. getD (a .memory) k zero32) (λ k l. each-or zero32 k (zero-size 223) h) in
+      let past = each-tab (nf c - z c) (λ k. getD (a .memory) k zero32) (λ k l. each-or zero32 k (zero-size 223 1) h) in
       each-weaken size-finite (samples-bound c (p .is-valid) _ (x .lines) past (p .lines-is) (passing c x e))
   sampled (suc n) e f = absurd (omega arith)
 
@@ -175,6 +184,10 @@ any (q ∷ qs) = within.also tt (any qs)
 after-kept : (c : ℕ) (a : synthesisChannel.Channel) → clears synthesis c ≡ some a → (qs : List (Call synthesisCalls.Lent)) → Kept (after synthesis a qs)
 after-kept c a e qs = kept synthesis Kept (λ q. Unit {0}) clear-kept frame-kept c a e (any qs)
 
+-- ---- lines that pass 6, wherever they come from
+passing-7 : (c : ℕ) → T (valid c) → (l : List Float) → length l ≡ nf c → Each (λ x. T (passes6 x)) l → Each (λ x. T (passes7 x)) (energiesOf c l)
+passing-7 c v l e a = each-weaken (λ x h. h .0) (energies-bound 60 (lit≤ tt) c v l e (each-weaken six-within a))
+
 pub no-overflow : NoOverflow
 unfolding synthesisCalls.frames
 no-overflow =
@@ -184,8 +197,9 @@ no-overflow =
       energies = from-clear Energies (accepted Energies energies-each);
       energies-anywhere = accepted Energies energies-each;
       heard-anywhere = accepted Hears hears-each;
-      listed = λ a v s x e i. (takes a v x e, accepted Hears hears-each a s (lent x (listing.zeros (nf (a .config))) (listing.zeros (nb (a .config)))) i (takes a v x e));
-      measured = λ c v l e a. each-weaken (λ x h. h .0) (energies-bound 60 (lit≤ tt) c v l e (each-weaken six-within a));
+      listed = λ a v s f. (takes a v f, accepted Hears hears-each a s (lends a f) (lends-samples a f) (takes a v f));
+      measured = passing-7;
+      measured-heard = λ c v l e a. hears c v l (passing-7 c v l e a);
       samples = λ c a e qs x n. sampled (after synthesis a qs) x (after-kept c a e qs) (synthesisCalls.number (after synthesis a qs .config) x) refl n;
       memory = λ c a e qs. each-weaken size-finite (after-kept c a e qs);
     }

@@ -1,4 +1,4 @@
--- Frames that come near the bounds, by computation. Assumes nothing.
+-- Values that show that smaller bounds are false, by computation. Assumes nothing.
 use Prim.Native.Nat.{ℕ, _*_, _^_}
 use native.Mathlib.Nat.{lt-irrefl, lt-of-lt-of-le}
 use mathlib.Core.Path.{refl}
@@ -37,4 +37,4 @@ not-within a (fin s m e) t h = lt-irrefl (a * down e) (lt-of-lt-of-le (ltb→lt 
 
 pub reached : Reached
 unfolding cleared frames linesOf mdct timeBuffer bufferStep pastOf bufferOf gained folded foldLow foldHigh weighed dctIv spectrum work column column2 column3 column5 stage plan twiddle fftImOf fftRe fftIm dctTwiddle dctRe dctIm gain start sizes fftReBits fftImBits dctReBits dctImBits gainBits windows.window windows.start entries row rows half tab ofBits ofFields odd trailingZeros units round neg sum add sub mul div ofInt energiesOf energies bandOf energy share edges edgeRows
-reached = record { line-is = refl; line-above = not-within (2 ^ 16) line0 tt; energy-is = refl; energy-above = not-within (2 ^ 32) energy0 tt; square-is = refl; column-is = refl }
+reached = record { line-above = not-within (2 ^ 16) line0 tt; energy-above = not-within (2 ^ 32) energy0 tt; square-is = refl; column-is = refl }

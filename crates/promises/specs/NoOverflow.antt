@@ -18,12 +18,12 @@ use Rattle.columns.specs.Column.{col, five}
 use Rattle.config.specs.Config.{valid, nf}
 use Rattle.config.specs.Refusals as refusals
 use Rattle.twiddles.specs.Circle.{finite}
-use Rattle.analysis_steps.specs.Energy.{energy}
 use Rattle.analysis.specs.declared.Channel.{Channel}
 use Rattle.analysis.specs.Analysis.{Lent, Given, energiesOf, cleared, frames, lent}
 use Rattle.synthesis.specs.declared.Channel as synthesisChannel
 use Rattle.synthesis.specs.Synthesis as synthesisCalls
 use Rattle.loudest.specs.Loudest.{heard, paper}
+use Rattle.frame_file.specs.File.{samples as decoded}
 use Rattle.listing.specs.Listing.{framed}
 use Rattle.bounds.specs.Within.{Within, Each}
 use Rattle.promises.specs.Sequence.{Call, clear, frame, clears, after}
@@ -51,6 +51,16 @@ Energy x = T (passes7 x) × Within (2 ^ 61) 1 x
 abbrev pub Finite : Float → Type 0
 Finite x = T (finite x)
 
+-- of what a frame gives: its lines, its energies, and that the loudest band takes these
+abbrev pub Lines : Given → Type 0
+Lines g = Each Line (g .lines)
+
+abbrev pub Energies : Given → Type 0
+Energies g = Each Energy (g .energies)
+
+abbrev pub Hears : Given → Type 0
+Hears g = paper (heard (g .energies)) .number ≡ refusals.accepted
+
 -- P holds of what an accepted frame gives, "for any samples and any history from a clear": after any calls at all, as `by-definition` of demand 3 has them
 abbrev pub FromClear : (Given → Type 0) → Type 0
 FromClear P = (c : ℕ) (a : Channel) → clears analysis c ≡ some a → (qs : List (Call Lent)) → Each Sampled qs
@@ -62,18 +72,19 @@ OnAny P = (a : Channel) → Each Sample (a .samples) → (x : Lent) → Each Sam
 
 pub record NoOverflow : Type 0 where
   -- "every line is finite and at most 2^30 in magnitude"
-  pub lines : FromClear (λ g. Each Line (g .lines))
-  pub lines-anywhere : OnAny (λ g. Each Line (g .lines))
+  pub lines : FromClear Lines
+  pub lines-anywhere : OnAny Lines
   -- "every energy finite, not below zero and at most 2^61"
-  pub energies : FromClear (λ g. Each Energy (g .energies))
-  pub energies-anywhere : OnAny (λ g. Each Energy (g .energies))
+  pub energies : FromClear Energies
+  pub energies-anywhere : OnAny Energies
   -- So the loudest band never refuses the energies of an accepted frame.
-  pub heard-anywhere : OnAny (λ g. paper (heard (g .energies)) .number ≡ refusals.accepted)
-  -- So in the listing, whose call lends room for nf lines and nb energies, neither a frame of nf samples nor its energies are refused.
-  pub listed : (a : Channel) → T (valid (a .config)) → Each Sample (a .samples) → (x : List ℤ) → length x ≡ nf (a .config) → Each Sample x
-      → (framed a x .0 .number ≡ refusals.accepted) × (paper (heard (framed a x .0 .energies)) .number ≡ refusals.accepted)
-  -- The energies of any nf lines that pass 6 pass 7: a line's square is at most 2^120.
+  pub heard-anywhere : OnAny Hears
+  -- So in the listing, whose frames are nf samples of a file's bytes, whatever these are, neither a frame nor its energies are refused.
+  pub listed : (a : Channel) → T (valid (a .config)) → Each Sample (a .samples) → (bytes : List ℕ)
+      → (framed a (decoded (nf (a .config)) bytes) .0 .number ≡ refusals.accepted) × Hears (framed a (decoded (nf (a .config)) bytes) .0)
+  -- The energies of any nf lines that pass 6 pass 7, since a line's square is at most 2^120; and the loudest band takes them.
   pub measured : (c : ℕ) → T (valid c) → (l : List Float) → length l ≡ nf c → Each (λ x. T (passes6 x)) l → Each (λ x. T (passes7 x)) (energiesOf c l)
+  pub measured-heard : (c : ℕ) → T (valid c) → (l : List Float) → length l ≡ nf c → Each (λ x. T (passes6 x)) l → paper (heard (energiesOf c l)) .number ≡ refusals.accepted
   -- "in synthesis, for lines that pass 6 with any history from a clear, every sample .. is finite": a frame with another line is refused
   pub samples : (c : ℕ) (a : synthesisChannel.Channel) → clears synthesis c ≡ some a → (qs : List (Call synthesisCalls.Lent)) (x : synthesisCalls.Lent)
       → synthesisCalls.frames (after synthesis a qs) x .0 .number ≡ refusals.accepted → Each Finite (synthesisCalls.frames (after synthesis a qs) x .0 .samples)
@@ -97,13 +108,11 @@ abbrev pub both : ℤ → ℤ → Complex
 both r i = parts (ofInt binary32 r) (ofInt binary32 i)
 
 pub record Reached : Type 0 where
-  -- Line 0 is 208934.67, so it is false that every line is at most 2^16 in magnitude.
-  pub line-is : line0 ≡ ofBits binary32 0x484c09ab
+  -- It is false that every line is at most 2^16 in magnitude.
   pub line-above : Within (2 ^ 16) 1 line0 → ⊥
-  -- Energy 0 is 43653697536, so it is false that every energy is at most 2^32.
-  pub energy-is : energy0 ≡ ofBits binary32 0x51229f69
+  -- It is false that every energy is at most 2^32.
   pub energy-above : Within (2 ^ 32) 1 energy0 → ⊥
-  -- The energy of a band of one line of 2^64 is infinite, so it is false that the energies of any finite lines pass 7.
-  pub square-is : energy (ofBits binary32 0x5f800000 ∷ []) ≡ inf false
-  -- In radix 5 a column with parts of 1, or 2 where it is twiddled, comes to 17 under twiddles with parts of 1: so, of such, it is false that no part grows more than 2^4 times.
+  -- Of a line of 2^64 and 59 zeros, which are finite, energy 0 is infinite: it is false that the energies of any finite lines pass 7.
+  pub square-is : getD (energiesOf 0 (ofBits binary32 0x5f800000 ∷ replicate 59 zero32)) 0 nan ≡ inf false
+  -- In radix 5 a column of 1, and of 2 where it is twiddled, comes to 17 under twiddles of 1, in each part: it is false that `fives` holds with 2^4.
   pub column-is : five (both (pos 1) (pos 1)) (both (pos 1) (pos 1)) (col (both (pos 1) (pos 1) ∷ both (pos 2) (negsuc 1) ∷ both (pos 2) (negsuc 1) ∷ both (pos 2) (pos 2) ∷ both (pos 2) (pos 2) ∷ [])) 1 .r ≡ ofInt binary32 (pos 17)
