@@ -18,38 +18,35 @@ half-size : Size 148 1 column.half
 unfolding ofBits
 half-size = record { fact = lit≤ tt }
 
-module _ (k : ℕ) (K : k ≤ 250) where
-  K3 : k ≤ 253
-  K3 = omega arith
-
+module _ (k : ℕ) (K : k ≤ 253) where
   joined : {q r : ℕ} {x y : Complex} → Both k q x → Both k r y → T (ltb (q + r) (2 ^ 24)) → Both k (q + r) (complex.plus x y)
-  joined h g t = record { r = plus (room K3 t) (h .r) (g .r); i = plus (room K3 t) (h .i) (g .i) }
+  joined h g t = record { r = plus (room K t) (h .r) (g .r); i = plus (room K t) (h .i) (g .i) }
 
   parted : {q r : ℕ} {x y : Complex} → Both k q x → Both k r y → T (ltb (q + r) (2 ^ 24)) → Both k (q + r) (complex.minus x y)
-  parted h g t = record { r = less (room K3 t) (h .r) (g .r); i = less (room K3 t) (h .i) (g .i) }
+  parted h g t = record { r = less (room K t) (h .r) (g .r); i = less (room K t) (h .i) (g .i) }
 
   left : {q r : ℕ} {x y : Complex} → Both k q x → Both k r y → T (ltb (q + r) (2 ^ 24)) → Both k (q + r) (column.left x y)
-  left h g t = record { r = less (room K3 t) (h .r) (g .i); i = plus (room K3 t) (h .i) (g .r) }
+  left h g t = record { r = less (room K t) (h .r) (g .i); i = plus (room K t) (h .i) (g .r) }
 
   right : {q r : ℕ} {x y : Complex} → Both k q x → Both k r y → T (ltb (q + r) (2 ^ 24)) → Both k (q + r) (column.right x y)
-  right h g t = record { r = plus (room K3 t) (h .r) (g .i); i = less (room K3 t) (h .i) (g .r) }
+  right h g t = record { r = plus (room K t) (h .r) (g .i); i = less (room K t) (h .i) (g .r) }
 
   -- times a part of a twiddle
   part : {q : ℕ} {x t : Float} → Size k q x → Size 149 1 t → T (ltb (q * 1) (2 ^ 24)) → Size k (q * 1) (mul binary32 x t)
-  part h g t = product (room K3 t) refl h g
+  part h g t = product (room K t) refl h g
 
   scaled : {q : ℕ} {x : Complex} {t : Float} → Both k q x → Size 149 1 t → T (ltb (q * 1) (2 ^ 24)) → Both k (q * 1) (complex.scale x t)
   scaled h g t = record { r = part (h .r) g t; i = part (h .i) g t }
 
   halved : {x : Complex} → Both k 4 x → Both k 2 (complex.scale x column.half)
-  halved h = record { r = product (room K3 tt) (omega arith) (raise 2 1 (h .r)) half-size; i = product (room K3 tt) (omega arith) (raise 2 1 (h .i)) half-size }
+  halved h = record { r = product (room K tt) (omega arith) (raise 2 1 (h .r)) half-size; i = product (room K tt) (omega arith) (raise 2 1 (h .i)) half-size }
 
   -- two numbers' product, of which the one is a twiddle
   pub turned : {i j : ℕ} {x y : Complex} → i + j ≡ k + 149 → Both i 1 x → Both j 1 y → Both k 2 (complex.times x y)
   turned e h g =
       record {
-        r = less (room K3 tt) (product (room K3 tt) e (h .r) (g .r)) (product (room K3 tt) e (h .i) (g .i));
-        i = plus (room K3 tt) (product (room K3 tt) e (h .r) (g .i)) (product (room K3 tt) e (h .i) (g .r));
+        r = less (room K tt) (product (room K tt) e (h .r) (g .r)) (product (room K tt) e (h .i) (g .i));
+        i = plus (room K tt) (product (room K tt) e (h .r) (g .i)) (product (room K tt) e (h .i) (g .r));
       }
 
   -- q of 2 ^ k steps are one of 2 ^ (k + g)
@@ -95,11 +92,11 @@ module _ (k : ℕ) (K : k ≤ 250) where
 
   near : {s10 s9 ya yb : Complex} → Both k 4 s10 → Both k 4 s9 → Small ya → Small yb → Both k 8 (column.near s10 s9 ya yb)
   near h g a b =
-      record { r = plus (room K3 tt) (part (h .i) (a .i) tt) (part (g .i) (b .i) tt); i = less (room K3 tt) (minus (part (h .r) (a .i) tt)) (part (g .r) (b .i) tt) }
+      record { r = plus (room K tt) (part (h .i) (a .i) tt) (part (g .i) (b .i) tt); i = less (room K tt) (minus (part (h .r) (a .i) tt)) (part (g .r) (b .i) tt) }
 
   far : {s10 s9 ya yb : Complex} → Both k 4 s10 → Both k 4 s9 → Small ya → Small yb → Both k 8 (column.far s10 s9 ya yb)
   far h g a b =
-      record { r = plus (room K3 tt) (minus (part (h .i) (b .i) tt)) (part (g .i) (a .i) tt); i = less (room K3 tt) (part (h .r) (b .i) tt) (part (g .r) (a .i) tt) }
+      record { r = plus (room K tt) (minus (part (h .i) (b .i) tt)) (part (g .i) (a .i) tt); i = less (room K tt) (part (h .r) (b .i) tt) (part (g .r) (a .i) tt) }
 
   pub by5 : (v : ℕ → Complex) → Column k 5 v → (ya yb : Complex) → Small ya → Small yb → (q : ℕ) → q < 5 → Both (k + grow 5) 1 (column.five ya yb v q)
   by5 v c ya yb ga gb q Q =

@@ -32,7 +32,7 @@ doubled : {k : ℕ} {x : Float} → k + 1 ≤ 253 → Size k 1 x → Size (k + 1
 doubled K h = product (room K tt) (omega arith) h double-size
 
 -- of 2 n values, where n is a size of the FFT
-module _ (n : ℕ) (s : T (among fftSizes n)) (k : ℕ) (K : k + 3 + growth (plan n) ≤ 250) (buf : List Float) (even : length buf ≡ 2 * n) (each : Each (Size k 1) buf) where
+module _ (n : ℕ) (s : T (among fftSizes n)) (k : ℕ) (K : k + 3 + growth (plan n) ≤ 253) (buf : List Float) (even : length buf ≡ 2 * n) (each : Each (Size k 1) buf) where
   abbrev d : ℕ → Complex
   d = dctTwiddle n
 
@@ -45,7 +45,7 @@ module _ (n : ℕ) (s : T (among fftSizes n)) (k : ℕ) (K : k + 3 + growth (pla
   value : (i : ℕ) → i < 2 * n → Size k 1 (getD buf i nan)
   value i I = each-at nan i each (omega arith)
 
-  twiddled : {j : ℕ} {i : ℕ} {x : Complex} → j ≤ 250 → i < n → Both j 1 x → Both (j + 1) 1 (times (d i) x)
+  twiddled : {j : ℕ} {i : ℕ} {x : Complex} → j ≤ 253 → i < n → Both j 1 x → Both (j + 1) 1 (times (d i) x)
   twiddled {j} {i} J I h = up j J 1 (turned j J (omega arith) (dct-small n s i I) h) tt
 
   points : (i : ℕ) → i < n → Both (k + 1) 1 (point d buf i)

@@ -35,7 +35,7 @@ module _ (N : ℕ) (t : ℕ → Complex) (inverse : Bool) (small : (i : ℕ) →
   -- ---- a stage's column
   module _ (p s m j : ℕ) (S : 0 < s) (e : s * (p * m) ≡ N) (J : j < m) where
     -- as its butterfly is handed it
-    twisted : (k : ℕ) → k ≤ 250 → (c : ℕ → Complex) → 0 < p → ((q : ℕ) → q < p → Both k 1 (c q)) → Column k p (twist t (j * s) c)
+    twisted : (k : ℕ) → k ≤ 253 → (c : ℕ → Complex) → 0 < p → ((q : ℕ) → q < p → Both k 1 (c q)) → Column k p (twist t (j * s) c)
     twisted k K c P C =
         record { first = C 0 P; others = λ q Q. turned k K refl (C (suc q) Q) (small (suc q * (j * s)) (turn-in (suc q) j m p s N J Q S e)) }
 
@@ -46,7 +46,7 @@ module _ (N : ℕ) (t : ℕ → Complex) (inverse : Bool) (small : (i : ℕ) →
     one-turn : 1 < p → Small (t (s * m))
     one-turn Q = subst (λ (n : ℕ). Small (t n)) (one-mul (s * m)) (turn 1 Q)
 
-  pub column-bound : (k : ℕ) → k ≤ 250 → (p s m j : ℕ) → 2 ≤ p → p ≤ 5 → 0 < s → s * (p * m) ≡ N → j < m → (c : ℕ → Complex) → ((q : ℕ) → q < p → Both k 1 (c q))
+  pub column-bound : (k : ℕ) → k ≤ 253 → (p s m j : ℕ) → 2 ≤ p → p ≤ 5 → 0 < s → s * (p * m) ≡ N → j < m → (c : ℕ → Complex) → ((q : ℕ) → q < p → Both k 1 (c q))
       → (q : ℕ) → q < p → Both (k + grow p) 1 (column t inverse s p m j c q)
   unfolding column column2 column3 column4 column5
   column-bound k K zero s m j l u S e J c C = absurd (omega arith)
@@ -60,7 +60,7 @@ module _ (N : ℕ) (t : ℕ → Complex) (inverse : Bool) (small : (i : ℕ) →
 
   -- ---- the whole FFT, of numbers x whose parts are at most 2 ^ k steps
   module _ (k : ℕ) (x : ℕ → Complex) (bound : (i : ℕ) → i < N → Both k 1 (x i)) where
-    work-bound : (ps : List ℕ) → T (planned ps) → (s o : ℕ) → o < s → s * span ps ≡ N → k + growth ps ≤ 250 → (i : ℕ) → i < span ps → Both (k + growth ps) 1 (work t inverse x ps s o i)
+    work-bound : (ps : List ℕ) → T (planned ps) → (s o : ℕ) → o < s → s * span ps ≡ N → k + growth ps ≤ 253 → (i : ℕ) → i < span ps → Both (k + growth ps) 1 (work t inverse x ps s o i)
     unfolding work stage planned
     work-bound [] h s o O e K i I = subst (λ (n : ℕ). Both n 1 (x o)) (sym (add-zero k)) (bound o (lt-of-lt-of-le O (le-of-eq (sym (mul-one s) ∙ e))))
     work-bound (p ∷ []) h s o O e K i I = absurd h
@@ -75,5 +75,5 @@ module _ (N : ℕ) (t : ℕ → Complex) (inverse : Bool) (small : (i : ℕ) →
         (column-bound (k + growth ps) (omega arith) p s m (i % m) (d .at-least) (d .at-most) (lt-of-le-of-lt zero-le O) e (mod-lt i M) _ (λ q Q. inner (i % m + m * q) (place-in i m p q M Q)) (i / m) (part-in i m p I)))
 
     -- from the first input on, and all of them
-    pub transform-bound : (ps : List ℕ) → T (planned ps) → span ps ≡ N → k + growth ps ≤ 250 → (i : ℕ) → i < N → Both (k + growth ps) 1 (work t inverse x ps 1 0 i)
+    pub transform-bound : (ps : List ℕ) → T (planned ps) → span ps ≡ N → k + growth ps ≤ 253 → (i : ℕ) → i < N → Both (k + growth ps) 1 (work t inverse x ps 1 0 i)
     transform-bound ps h e K i I = work-bound ps h 1 0 (lit< tt) (one-mul (span ps) ∙ e) K i (subst (λ (m : ℕ). i < m) (sym e) I)

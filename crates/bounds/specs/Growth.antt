@@ -34,25 +34,26 @@ growth (p ∷ m ∷ ps) = growth ps + grow p
 abbrev pub tame : ℕ → Bool
 tame c = leb (growth (plan (half c))) 14 && upto (159 - growth (plan (half c))) (gain (nf c))
 
+-- Up to 2^253 steps, since 2^277 of them are more than an f32 holds and a column is counted in up to 2^24 multiples.
 pub record Growth : Type 0 where
   -- no part of a twiddle that the DCT or its FFT reads is above 1
   pub fft-small : (n : ℕ) → T (among fftSizes n) → (i : ℕ) → i < n → Small (twiddle n false i)
   pub dct-small : (n : ℕ) → T (among fftSizes n) → (i : ℕ) → i < n → Small (dctTwiddle n i)
   -- the butterflies
-  pub twos : (k : ℕ) → k ≤ 250 → (v : ℕ → Complex) → Column k 2 v → (q : ℕ) → q < 2 → Both (k + grow 2) 1 (two v q)
-  pub threes : (k : ℕ) → k ≤ 250 → (v : ℕ → Complex) → Column k 3 v → (y : Complex) → Small y → (q : ℕ) → q < 3 → Both (k + grow 3) 1 (three y v q)
-  pub fours : (k : ℕ) → k ≤ 250 → (v : ℕ → Complex) → Column k 4 v → (inverse : Bool) → (q : ℕ) → q < 4 → Both (k + grow 4) 1 (four inverse v q)
-  pub fives : (k : ℕ) → k ≤ 250 → (v : ℕ → Complex) → Column k 5 v → (ya yb : Complex) → Small ya → Small yb → (q : ℕ) → q < 5 → Both (k + grow 5) 1 (five ya yb v q)
+  pub twos : (k : ℕ) → k ≤ 253 → (v : ℕ → Complex) → Column k 2 v → (q : ℕ) → q < 2 → Both (k + grow 2) 1 (two v q)
+  pub threes : (k : ℕ) → k ≤ 253 → (v : ℕ → Complex) → Column k 3 v → (y : Complex) → Small y → (q : ℕ) → q < 3 → Both (k + grow 3) 1 (three y v q)
+  pub fours : (k : ℕ) → k ≤ 253 → (v : ℕ → Complex) → Column k 4 v → (inverse : Bool) → (q : ℕ) → q < 4 → Both (k + grow 4) 1 (four inverse v q)
+  pub fives : (k : ℕ) → k ≤ 253 → (v : ℕ → Complex) → Column k 5 v → (ya yb : Complex) → Small ya → Small yb → (q : ℕ) → q < 5 → Both (k + grow 5) 1 (five ya yb v q)
   -- a column of radix p, with n twiddles so small: from parts of at most 2^k steps to 2^grow times that
   pub columns : (n : ℕ) (t : ℕ → Complex) (inverse : Bool) → ((i : ℕ) → i < n → Small (t i))
-      → (k : ℕ) → k ≤ 250 → (p s m j : ℕ) → 2 ≤ p → p ≤ 5 → 0 < s → s * (p * m) ≡ n → j < m → (c : ℕ → Complex) → ((q : ℕ) → q < p → Both k 1 (c q))
+      → (k : ℕ) → k ≤ 253 → (p s m j : ℕ) → 2 ≤ p → p ≤ 5 → 0 < s → s * (p * m) ≡ n → j < m → (c : ℕ → Complex) → ((q : ℕ) → q < p → Both k 1 (c q))
       → (q : ℕ) → q < p → Both (k + grow p) 1 (column t inverse s p m j c q)
   -- the transform of n numbers by any plan of n
   pub works : (n : ℕ) (t : ℕ → Complex) (inverse : Bool) → ((i : ℕ) → i < n → Small (t i))
-      → (k : ℕ) (x : ℕ → Complex) → ((i : ℕ) → i < n → Both k 1 (x i)) → (ps : List ℕ) → T (planned ps) → span ps ≡ n → k + growth ps ≤ 250
+      → (k : ℕ) (x : ℕ → Complex) → ((i : ℕ) → i < n → Both k 1 (x i)) → (ps : List ℕ) → T (planned ps) → span ps ≡ n → k + growth ps ≤ 253
       → (i : ℕ) → i < n → Both (k + growth ps) 1 (work t inverse x ps 1 0 i)
   -- the DCT of 2 n values: 2^3 times that of its FFT
-  pub dcts : (n : ℕ) → T (among fftSizes n) → (k : ℕ) → k + 3 + growth (plan n) ≤ 250
+  pub dcts : (n : ℕ) → T (among fftSizes n) → (k : ℕ) → k + 3 + growth (plan n) ≤ 253
       → (buf : List Float) → length buf ≡ 2 * n → Each (Size k 1) buf → Each (Size (k + 3 + growth (plan n)) 1) (dctIv buf)
   -- every configuration passes its test
   pub tames : (c : ℕ) → T (valid c) → T (tame c)
