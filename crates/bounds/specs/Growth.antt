@@ -20,7 +20,7 @@ pub record Column (k p : ℕ) (v : ℕ → Complex) : Type 0 where
   pub first : Both k 1 (v 0)
   pub others : (q : ℕ) → suc q < p → Both k 2 (v (suc q))
 
--- and comes to 2^(k + grow): part by part, 3 times as much in radix 2, 7 in 3 and 4, 17 in 5
+-- a butterfly of radix p makes of it numbers with parts of at most 2^(k + grow p) steps: counted part by part they come to 3 times 2^k in radix 2, 7 in 3 and 4, 17 in 5
 abbrev pub grow : ℕ → ℕ
 grow p = cond (eqb p 2) 2 (cond (eqb p 5) 5 3)
 
@@ -34,7 +34,7 @@ growth (p ∷ m ∷ ps) = growth ps + grow p
 abbrev pub tame : ℕ → Bool
 tame c = leb (growth (plan (half c))) 14 && upto (159 - growth (plan (half c))) (gain (nf c))
 
--- Up to 2^253 steps, since 2^277 of them are more than an f32 holds and a column is counted in up to 2^24 multiples.
+-- Exponents go to 253: a count below 2^24 of 2^253 steps is still an f32.
 pub record Growth : Type 0 where
   -- no part of a twiddle that the DCT or its FFT reads is above 1
   pub fft-small : (n : ℕ) → T (among fftSizes n) → (i : ℕ) → i < n → Small (twiddle n false i)

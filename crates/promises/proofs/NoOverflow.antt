@@ -8,7 +8,7 @@ use mathlib.Core.Option.{some}
 use mathlib.Core.List.{List, [], _∷_}
 use lib.IntN.{ℤ, pos, negsuc}
 use lib.Dec.{T, eqb, ltb, ltb→lt, nltb→le, lit<, lit≤}
-use lib.ListN.{length, getD, replicate, length-replicate}
+use lib.ListN.{length, getD, take, drop, replicate, length-replicate}
 use lib.Ieee.{Float, nan}
 use lib.Ieee.Bits.{is-true}
 use borrow.Author.Tests.{eq-eqb}
@@ -27,9 +27,10 @@ use Rattle.analysis.proofs.Frames.{says-0, passed}
 use Rattle.synthesis.specs.declared.Channel as synthesisChannel
 use Rattle.synthesis.specs.Synthesis as synthesisCalls
 use Rattle.synthesis.proofs.Frames as synthesisFrames
-use Rattle.frame_file.specs.File as file
-use Rattle.frame_file.specs.File.{signed}
-use Rattle.listing.specs.Listing as listing
+use Rattle.frame_file.specs.declared.Record.{Record}
+use Rattle.frame_file.specs.declared.Record.the-variants.{Frame, End, Cut, Astray}
+use Rattle.frame_file.specs.File.{short, signed, samples, recordOf, Contents, ended, more, reading, contents}
+use Rattle.listing.specs.Listing.{zeros as zeros32}
 use Rattle.loudest.specs.Loudest.{heard, paper}
 use Rattle.loudest.proofs.Rank.{first-le, first-all}
 use Rattle.bounds.specs.Within as within
@@ -43,7 +44,7 @@ use Rattle.bounds.proofs.Samples.{six-within, size-finite, memory-bound, sample
 use Rattle.promises.specs.Sequence.{Call, clears, after}
 use Rattle.promises.specs.AnalysisChannel.{analysis}
 use Rattle.promises.specs.SynthesisChannel.{synthesis}
-use Rattle.promises.specs.NoOverflow.{Sample, Sampled, Finite, Lines, Energies, Hears, FromClear, OnAny, NoOverflow}
+use Rattle.promises.specs.NoOverflow.{Sample, Sampled, Finite, Lines, Energies, Hears, numbers, FromClear, OnAny, NoOverflow}
 use Rattle.promises.proofs.Kept.{kept}
 
 -- ---- analysis: the samples are 16-bit
@@ -116,20 +117,53 @@ sample-signed n = go (ltb n 0x8000) (ltb→lt n 0x8000) (nltb→le n 0x8000)
     go true l g = record { sfits = l tt }
     go false l g = let h = g tt in record { sfits = omega arith }
 
--- what a call on n bytes' samples is lent
-abbrev lends : Channel → List ℕ → Lent
-lends a f = lent (file.samples (nf (a .config)) f) (listing.zeros (nf (a .config))) (listing.zeros (nb (a .config)))
+-- a frame of configuration c, as a file's bytes have it
+abbrev Whole : ℕ → List ℤ → Type 0
+Whole c x = (length x ≡ nf c) × Each Sample x
 
-lends-samples : (a : Channel) (f : List ℕ) → Each Sample (lends a f .input)
-unfolding file.samples
-lends-samples a f = each-tab (nf (a .config)) _ (λ k l. sample-signed (file.short f (2 * k)))
+decoded : (c : ℕ) (f : List ℕ) → Whole c (samples (nf c) f)
+unfolding samples
+decoded c f = (length-tab (nf c) _, each-tab (nf c) _ (λ k l. sample-signed (short f (2 * k))))
 
-takes : (a : Channel) → T (valid (a .config)) → (f : List ℕ) → frames a (lends a f) .0 .number ≡ 0
-unfolding frames file.samples
-takes a v f =
+whole-frames : (most c : ℕ) (f : List ℕ) → Each (Whole c) (reading most c f .frames)
+unfolding reading
+whole-frames zero c f = within.none
+whole-frames (suc most) c f = go (recordOf c f) (whole-frames most c)
+  where
+    go : (r : Record) → ((g : List ℕ) → Each (Whole c) (reading most c g .frames))
+        → Each (Whole c) ((elim r as (λ q. Contents) [ Frame used ↦ more (samples (nf c) (take used f)) (reading most c (drop used f)) | End ↦ ended End | Cut ↦ ended Cut | Astray ↦ ended Astray ]) .frames)
+    go (Frame used) rest = within.also (decoded c (take used f)) (rest (drop used f))
+    go End rest = within.none
+    go Cut rest = within.none
+    go Astray rest = within.none
+
+-- what the listing's call is lent for a frame
+abbrev lends : Channel → List ℤ → Lent
+lends a x = lent x (zeros32 (nf (a .config))) (zeros32 (nb (a .config)))
+
+takes : (a : Channel) → T (valid (a .config)) → (x : List ℤ) → length x ≡ nf (a .config) → frames a (lends a x) ≡ framed 0 a (lends a x)
+unfolding frames
+takes a v x e =
     let c = a .config in
-    let n : 0 ≡ number c (lends a f) = says-0 c (lends a f) refl (ap not (is-true (valid c) v)) (length-tab (nf c) _) (length-replicate (nf c) zero32) (length-replicate (nb c) zero32) in
-    ap (λ (m : ℕ). framed m a (lends a f) .0 .number) (sym n)
+    ap (λ (n : ℕ). framed n a (lends a x)) (sym (says-0 c (lends a x) refl (ap not (is-true (valid c) v)) e (length-replicate (nf c) zero32) (length-replicate (nb c) zero32)))
+
+-- all along frames, from a channel on
+along : (xs : List (List ℤ)) (a : Channel) → T (valid (a .config)) → Held a → Each (Whole (a .config)) xs → Each (λ n. n ≡ 0) (numbers a xs)
+along [] a v s within.none = within.none
+along (x ∷ xs) a v s (within.also w ws) =
+    let l = lends a x in
+    let t = takes a v x (w .0) in
+    let n = ap (λ (r : Given × Channel). r .0 .number) t in
+    let next = along xs (framed 0 a l .1) v (subst (λ (r : Given × Channel). Held (r .1)) t (frame-held a l (w .1) s)) ws in
+    within.also n (within.also (accepted Hears hears-each a s l (w .1) n) (subst (λ (r : Given × Channel). Each (λ n. n ≡ 0) (numbers (r .1) xs)) (sym t) next))
+
+along-file : (c : ℕ) → T (valid c) → (f : List ℕ) → Each (λ n. n ≡ 0) (numbers (cleared c .channel) (contents c f .frames))
+unfolding cleared contents
+along-file c v f = go (valid c) v
+  where
+    go : (b : Bool) → T b → Each (λ n. n ≡ 0) (numbers (clearing b c .channel) (contents c f .frames))
+    go true t = along _ (clearing true c .channel) v (zeros 300) (whole-frames (suc (length f)) c f)
+    go false t = absurd t
 
 -- ---- synthesis: the memory is at most 2^74
 abbrev Kept : synthesisChannel.Channel → Type 0
@@ -197,7 +231,7 @@ no-overflow =
       energies = from-clear Energies (accepted Energies energies-each);
       energies-anywhere = accepted Energies energies-each;
       heard-anywhere = accepted Hears hears-each;
-      listed = λ a v s f. (takes a v f, accepted Hears hears-each a s (lends a f) (lends-samples a f) (takes a v f));
+      listed = along-file;
       measured = passing-7;
       measured-heard = λ c v l e a. hears c v l (passing-7 c v l e a);
       samples = λ c a e qs x n. sampled (after synthesis a qs) x (after-kept c a e qs) (synthesisCalls.number (after synthesis a qs .config) x) refl n;

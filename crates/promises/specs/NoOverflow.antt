@@ -23,7 +23,7 @@ use Rattle.analysis.specs.Analysis.{Lent, Given, energiesOf, cleared, frames, l
 use Rattle.synthesis.specs.declared.Channel as synthesisChannel
 use Rattle.synthesis.specs.Synthesis as synthesisCalls
 use Rattle.loudest.specs.Loudest.{heard, paper}
-use Rattle.frame_file.specs.File.{samples as decoded}
+use Rattle.frame_file.specs.File.{contents}
 use Rattle.listing.specs.Listing.{framed}
 use Rattle.bounds.specs.Within.{Within, Each}
 use Rattle.promises.specs.Sequence.{Call, clear, frame, clears, after}
@@ -31,7 +31,7 @@ use Rattle.promises.specs.AnalysisChannel.{analysis}
 use Rattle.promises.specs.SynthesisChannel.{synthesis}
 
 -- ---- the words
--- a 16-bit integer: what the checker knows of every `i16`, so of every sample that a caller's slice or a channel's array can hold
+-- a 16-bit integer, from -32768 to 32767: what the checker knows of every `i16`, so of every sample that a caller's slice or a channel's array can hold
 abbrev pub Sample : ℤ → Type 0
 Sample s = SFits w16 s
 
@@ -61,6 +61,11 @@ Energies g = Each Energy (g .energies)
 abbrev pub Hears : Given → Type 0
 Hears g = paper (heard (g .energies)) .number ≡ refusals.accepted
 
+-- the numbers that the listing is told along frames, as `frameLines` goes through them: each frame's, and the loudest band's on its energies
+abbrev pub numbers : Channel → List (List ℤ) → List ℕ
+numbers a [] = []
+numbers a (x ∷ xs) = framed a x .0 .number ∷ paper (heard (framed a x .0 .energies)) .number ∷ numbers (framed a x .1) xs
+
 -- P holds of what an accepted frame gives, "for any samples and any history from a clear": after any calls at all, as `by-definition` of demand 3 has them
 abbrev pub FromClear : (Given → Type 0) → Type 0
 FromClear P = (c : ℕ) (a : Channel) → clears analysis c ≡ some a → (qs : List (Call Lent)) → Each Sampled qs
@@ -79,9 +84,8 @@ pub record NoOverflow : Type 0 where
   pub energies-anywhere : OnAny Energies
   -- So the loudest band never refuses the energies of an accepted frame.
   pub heard-anywhere : OnAny Hears
-  -- So in the listing, whose frames are nf samples of a file's bytes, whatever these are, neither a frame nor its energies are refused.
-  pub listed : (a : Channel) → T (valid (a .config)) → Each Sample (a .samples) → (bytes : List ℕ)
-      → (framed a (decoded (nf (a .config)) bytes) .0 .number ≡ refusals.accepted) × Hears (framed a (decoded (nf (a .config)) bytes) .0)
+  -- So in the listing of a file of any bytes neither a frame nor its energies are refused.
+  pub listed : (c : ℕ) → T (valid c) → (bytes : List ℕ) → Each (λ n. n ≡ refusals.accepted) (numbers (cleared c .channel) (contents c bytes .frames))
   -- The energies of any nf lines that pass 6 pass 7, since a line's square is at most 2^120; and the loudest band takes them.
   pub measured : (c : ℕ) → T (valid c) → (l : List Float) → length l ≡ nf c → Each (λ x. T (passes6 x)) l → Each (λ x. T (passes7 x)) (energiesOf c l)
   pub measured-heard : (c : ℕ) → T (valid c) → (l : List Float) → length l ≡ nf c → Each (λ x. T (passes6 x)) l → paper (heard (energiesOf c l)) .number ≡ refusals.accepted
