@@ -9,10 +9,10 @@ use lib.IntN.{ℤ}
 use lib.ListN.{length}
 use lib.Ieee.{Float}
 use borrow.Author.Tests.{not-true, not-false, eq-eqb, ne-eqb, eqb-true}
-use Rattle.config.specs.Config.{valid, nf, nb}
+use Rattle.config.specs.Config.{valid, nf}
 use Rattle.analysis.specs.declared.Channel.{Channel}
 use Rattle.analysis_lines.specs.Lines.{linesOf}
-use Rattle.analysis.specs.Analysis.{energiesOf, flagOf, keptOf, channelOf, clearing, cleared, Lent, Given, number, accepted, framed, frames}
+use Rattle.analysis.specs.Analysis.{keptOf, channelOf, clearing, cleared, Lent, Given, number, accepted, framed, frames}
 
 pub clear-is : (c : ℕ) (b v : Bool) → v ≡ b → v ≡ valid c → cleared c ≡ clearing b c
 unfolding cleared
@@ -34,32 +34,25 @@ module _ (c : ℕ) (x : Lent) {v : Bool} (e : v ≡ valid c) where
       pub says-4 : (length (x .lines) ≡ nf c → ⊥) → 4 ≡ number c x
       says-4 b = simp (ok, eq-eqb _ _ a, ne-eqb _ _ b)
 
-      module _ (b : length (x .lines) ≡ nf c) where
-        pub says-5 : (length (x .energies) ≡ nb c → ⊥) → 5 ≡ number c x
-        says-5 d = simp (ok, eq-eqb _ _ a, eq-eqb _ _ b, ne-eqb _ _ d)
-
-        pub says-0 : length (x .energies) ≡ nb c → 0 ≡ number c x
-        says-0 d = simp (ok, eq-eqb _ _ a, eq-eqb _ _ b, eq-eqb _ _ d)
+      pub says-0 : length (x .lines) ≡ nf c → 0 ≡ number c x
+      says-0 b = simp (ok, eq-eqb _ _ a, eq-eqb _ _ b)
 
 -- what a call that is not refused has passed
 abbrev pub Passed : ℕ → Lent → Type 0
-Passed c x = T (valid c) × (length (x .input) ≡ nf c) × (length (x .lines) ≡ nf c) × (length (x .energies) ≡ nb c)
+Passed c x = T (valid c) × (length (x .input) ≡ nf c) × (length (x .lines) ≡ nf c)
 
 pub passed : (c : ℕ) (x : Lent) → number c x ≡ 0 → Passed c x
-passed c x = go (valid c) (eqb (length (x .input)) (nf c)) (eqb (length (x .lines)) (nf c)) (eqb (length (x .energies)) (nb c)) refl refl refl refl
+passed c x = go (valid c) (eqb (length (x .input)) (nf c)) (eqb (length (x .lines)) (nf c)) refl refl refl
   where
-    go : (p q r s : Bool) → valid c ≡ p → eqb (length (x .input)) (nf c) ≡ q → eqb (length (x .lines)) (nf c) ≡ r → eqb (length (x .energies)) (nb c) ≡ s
-        → _≡_ {A = ℕ} (cond (not p) 1 (cond (not q) 3 (cond (not r) 4 (cond (not s) 5 0)))) 0 → Passed c x
-    go true true true true p q r s e =
-        (subst T (sym p) tt, eqb-true _ _ q, eqb-true _ _ r, eqb-true _ _ s)
-    go true true true false p q r s e = absurd (omega arith)
-    go true true false d p q r s e = absurd (omega arith)
-    go true false b d p q r s e = absurd (omega arith)
-    go false a b d p q r s e = absurd (omega arith)
+    go : (p q r : Bool) → valid c ≡ p → eqb (length (x .input)) (nf c) ≡ q → eqb (length (x .lines)) (nf c) ≡ r
+        → _≡_ {A = ℕ} (cond (not p) 1 (cond (not q) 3 (cond (not r) 4 0))) 0 → Passed c x
+    go true true true p q r e = (subst T (sym p) tt, eqb-true _ _ q, eqb-true _ _ r)
+    go true true false p q r e = absurd (omega arith)
+    go true false b p q r e = absurd (omega arith)
+    go false a b p q r e = absurd (omega arith)
 
 -- a refused call
-pub refused : (n : ℕ) (ch : Channel) (x : Lent) → (n ≡ 0 → ⊥)
-    → _≡_ {A = Given × Channel} (framed n ch x) (record { number = n; flag = false; lines = x .lines; energies = x .energies }, ch)
+pub refused : (n : ℕ) (ch : Channel) (x : Lent) → (n ≡ 0 → ⊥) → _≡_ {A = Given × Channel} (framed n ch x) (record { number = n; lines = x .lines }, ch)
 refused zero ch x h = absurd (h refl)
 refused (suc n) ch x h = refl
 
@@ -68,10 +61,6 @@ unfolding frames
 by-number ch x n e = ap (λ (k : ℕ). framed k ch x) (sym e)
 
 -- an accepted call
-pub made : (c : ℕ) (past x : List ℤ) (f : Bool) (l e : List Float) (s : List ℤ)
-    → l ≡ linesOf c past x → e ≡ energiesOf c l → f ≡ flagOf c (energiesOf c l) → s ≡ keptOf c past x
-    → _≡_ {A = Given × Channel} (record { number = 0; flag = f; lines = l; energies = e }, channelOf c s) (accepted c past x)
-made c past x f l e s p q r t =
-    let q' : e ≡ energiesOf c (linesOf c past x) = q ∙ ap (energiesOf c) p in
-    let r' : f ≡ flagOf c (energiesOf c (linesOf c past x)) = r ∙ ap (λ (m : List Float). flagOf c (energiesOf c m)) p in
-    λ i. (record { number = 0; flag = r' i; lines = p i; energies = q' i }, channelOf c (t i))
+pub made : (c : ℕ) (past x : List ℤ) (l : List Float) (s : List ℤ) → l ≡ linesOf c past x → s ≡ keptOf c past x
+    → _≡_ {A = Given × Channel} (record { number = 0; lines = l }, channelOf c s) (accepted c past x)
+made c past x l s p t = λ i. (record { number = 0; lines = p i }, channelOf c (t i))

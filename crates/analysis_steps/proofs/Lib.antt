@@ -1,5 +1,3 @@
 pub mod Parts
-pub mod Sums
 pub mod Buffers
 pub mod Folds
-pub mod Bands

@@ -2,14 +2,13 @@
 use mathlib.Core.Path.{_≡_, refl, sym, ap, ap₂, _∙_}
 use mathlib.Core.List.{List, _∷_, _++_}
 use Prim.Native.Nat.{ℕ, zero, suc, _+_, _-_, _≤_, _<_}
-use native.Mathlib.Nat.{zero-add, add-zero, suc-add, add-suc}
-use native.Mathlib.Numerals.{add-one}
+use native.Mathlib.Nat.{zero-add, suc-add}
 use native.Mathlib.Omega.{arith}
 use lib.ListN.{length, getD, take, drop, length-append, length-drop}
-use lib.Seq.{take-at, length-take-le, drop-at, getD-drop, sets}
+use lib.Seq.{take-at, length-take-le, getD-drop}
 use borrow.Rule.Slice.PartMut.{midOf, putMid}
 use Rattle.laws.specs.Lists.{tab}
-use Rattle.laws.proofs.Lists.{length-tab, tab-ext, Filled, filled-more}
+use Rattle.laws.proofs.Lists.{length-tab, tab-ext}
 use Rattle.laws.proofs.Parts.{mid-tail, put-tail}
 use Rattle.windows.specs.Windows.{Numbers}
 
@@ -50,19 +49,3 @@ two-parts {X} a l p q f g h e d =
     let n : length p ≡ a = ap length first ∙ length-tab a (f a) in
     let m : length (midOf a (length r - a) r) ≡ length l - a = ap length (mid-tail a r) ∙ simp (length-drop, length-append) (omega arith) in
     put-tail a r q ∙ ap (λ (s : List X). s ++ q) (take-at p (drop a l) a n) ∙ ap₂ (λ (s t : List X). s ++ t) first (d ∙ ap (λ (i : ℕ). tab i (g i)) m)
-
--- n places more are filled
-pub filled-on : {A : Type 0} {f : ℕ → A} {l : List A} {i : ℕ} {out : List A} (n : ℕ) (g : ℕ → A) (d : A)
-    → Filled f l i out → i + n ≤ length l → ((k : ℕ) → k < n → g k ≡ f (i + k)) → Filled f l (i + n) (sets out i (tab n g))
-unfolding tab
-filled-on zero g d h b e = rw add-zero h
-filled-on {f = f} {i = i} (suc n) g d h b e =
-    let first = filled-more (g 0) d h (omega arith) (e 0 (omega arith) ∙ ap f (add-zero i)) in
-    rw (add-suc i n, ← suc-add i n) (filled-on n (λ k. g (suc k)) d (rw add-one at first) (omega arith) (λ k l. e (suc k) (omega arith) ∙ ap f (omega arith)))
-
--- what is filled up to place m, as the start of what fills the rest
-pub filled-from : {A : Type 0} (m : ℕ) (f : ℕ → A) (l out : List A) → out ≡ tab m f ++ drop m l → Filled f out m out
-filled-from {A} m f l out e = record {
-  room = refl;
-  holds = e ∙ ap (λ (r : List A). tab m f ++ r) (sym (ap (drop m) e ∙ drop-at (tab m f) (drop m l) m (length-tab m f)));
-}

@@ -14,7 +14,7 @@ use Rattle.laws.specs.Numbers.{zero32}
 use Rattle.laws.specs.Passes.{passes7}
 use Rattle.config.specs.Config.{valid, nf, nb, edges}
 use Rattle.config.proofs.Sound.{sound}
-use Rattle.analysis_steps.specs.Energy.{sumOf, share, energy, bandOf, energies}
+use Rattle.measurement_steps.specs.Energy.{sumOf, share, energy, bandOf, energies}
 use Rattle.analysis.specs.Analysis.{energiesOf}
 use Rattle.bounds.specs.Within.{Within, Each, none, also}
 use Rattle.bounds.specs.Size.{Size}

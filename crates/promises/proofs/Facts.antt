@@ -16,7 +16,7 @@ use Rattle.config.specs.Refusals.{badEnergies, badEnergy}
 use Rattle.kf_work.specs.Work.{plan}
 use Rattle.analysis_steps.specs.Buffer.{pastOf, bufferStep}
 use Rattle.analysis_steps.specs.Fold.{weighed, foldLow, foldHigh, folded}
-use Rattle.analysis_steps.specs.Energy.{total, exceeds}
+use Rattle.measurement_steps.specs.Energy.{total, exceeds}
 use Rattle.analysis.specs.Analysis.{flagOf}
 use Rattle.synthesis_steps.specs.Places.{mirrored, unfolded, output, remains}
 use Rattle.loudest.specs.declared.Loudest.the-variants.{Quiet}

@@ -3,7 +3,7 @@ use mathlib.Core.Path.{refl}
 use lib.Ieee.{ofBits, add, mul, lt}
 use Rattle.config.specs.Tables.{rows}
 use Rattle.config.specs.Config.{row}
-use Rattle.analysis_steps.specs.Energy.{total, exceeds}
+use Rattle.measurement_steps.specs.Energy.{total, exceeds}
 use Rattle.analysis.specs.Analysis.{flagOf}
 use Rattle.promises.specs.Flags.{Flags}
 

@@ -19,7 +19,7 @@ use Rattle.laws.proofs.Lists.{length-tab, first-none}
 use Rattle.config.specs.Config.{valid, nf, z, ne, nb, among, bandCounts}
 use Rattle.config.proofs.Sound.{sound}
 use Rattle.analysis_steps.specs.Buffer.{pastOf, bufferStep, bufferOf}
-use Rattle.analysis_steps.specs.Energy.{energies}
+use Rattle.measurement_steps.specs.Energy.{energies}
 use Rattle.analysis_lines.specs.Lines.{timeBuffer, linesOf}
 use Rattle.analysis.specs.declared.Channel.{Channel}
 use Rattle.analysis.specs.Analysis.{Lent, Given, energiesOf, keptOf, held, clearing, cleared, number, framed, frames, lent}

@@ -18,7 +18,7 @@ use Rattle.kf_work.specs.Work.{plan, column, work, spectrum}
 use Rattle.dct_steps.specs.Dct.{dctIv}
 use Rattle.analysis_steps.specs.Buffer.{pastOf, bufferStep, bufferOf}
 use Rattle.analysis_steps.specs.Fold.{weighed, foldLow, foldHigh, folded, gained}
-use Rattle.analysis_steps.specs.Energy.{share, energy, bandOf, energies}
+use Rattle.measurement_steps.specs.Energy.{share, energy, bandOf, energies}
 use Rattle.analysis_lines.specs.Lines.{timeBuffer, mdct, linesOf}
 use Rattle.analysis.specs.Analysis.{energiesOf, cleared, frames}
 use Rattle.bounds.specs.Within.{Within}

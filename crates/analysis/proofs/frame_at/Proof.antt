@@ -8,22 +8,22 @@ use Rattle.analysis.proofs.frame_at.Tie as tie
 
 returns : tie.Need-returns
 returns c =
-    let a = c .before .before .before .before .before .before .args in
+    let a = c .before .before .before .before .args in
     let ch = channelOf (a .config) (a .samples .now) in
-    let x = lent (a .input .now) (a .lines .now) (a .energies .now) in
+    let x = lent (a .input .now) (a .lines .now) in
     by-number ch x _ (c .before .number .ensures) ∙ refused _ ch x (c .if1 .taken)
 
 step-requires : tie.Need-step-requires
 step-requires c κs =
-    let a = c .before .before .before .before .before .before .before .before .before .args in
-    let p = passed (a .config) (lent (a .input .now) (a .lines .now) (a .energies .now)) (sym (c .before .before .before .before .number .ensures) ∙ c .before .before .before .if1 .left) in
-    (p .0, p .1, p .2, p .3, search needs)
+    let a = c .before .before .before .before .before .before .args in
+    let p = passed (a .config) (lent (a .input .now) (a .lines .now)) (sym (c .before .before .before .number .ensures) ∙ c .before .before .if1 .left) in
+    (p .0, p .1, p .2, search needs)
 
 returns-2 : tie.Need-returns-2
 returns-2 c =
-    let a = c .before .before .before .before .before .before .before .before .before .before .before .before .before .before .args in
-    let x = lent (a .input .now) (a .lines .now) (a .energies .now) in
-    by-number (channelOf (a .config) (a .samples .now)) x 0 (sym (c .before .before .before .before .before .before .before .before .if1 .left) ∙ c .before .before .before .before .before .before .before .before .before .number .ensures) ∙ c .before .before .before .before .step .ensures
+    let a = c .before .before .before .before .before .before .before .before .before .args in
+    let x = lent (a .input .now) (a .lines .now) in
+    by-number (channelOf (a .config) (a .samples .now)) x 0 (sym (c .before .before .before .before .before .if1 .left) ∙ c .before .before .before .before .before .before .number .ensures) ∙ c .before .before .step .ensures
 
 -- the needs without a name, for any answer: a wrong one hides none of them
 safe : tie.Need-returns → tie.Need-returns-2 → {M : Type 1} → statement M
@@ -32,10 +32,8 @@ safe returns returns-2 =
     (tie.spec
     (λ c κs. search needs)
     (λ c. search needs)
-    (λ c. search needs)
     returns
     step-requires
-    (λ c. search needs)
     (λ c. search needs)
     returns-2)
 

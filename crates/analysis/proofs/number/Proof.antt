@@ -2,7 +2,7 @@
 use native.Mathlib.Omega.{arith}
 use borrow.Author.Needs.{needs}
 use Rattle.analysis.specs.Analysis.{lent}
-use Rattle.analysis.proofs.Frames.{says-0, says-1, says-3, says-4, says-5}
+use Rattle.analysis.proofs.Frames.{says-0, says-1, says-3, says-4}
 use Rattle.analysis.proofs.number.Statement.{statement}
 use Rattle.analysis.proofs.number.Tie as tie
 
@@ -11,8 +11,8 @@ valid-requires c κs = search needs
 
 returns : tie.Need-returns
 returns c =
-    let a = c .before .before .before .before .args in
-    let x = lent (a .input .now) (a .lines .now) (a .energies .now) in
+    let a = c .before .before .before .args in
+    let x = lent (a .input .now) (a .lines .now) in
     says-1 (a .c) x (c .before .valid .ensures) (c .if1 .taken)
 
 nf-requires : tie.Need-nf-requires
@@ -20,30 +20,21 @@ nf-requires c κs = search needs
 
 returns-2 : tie.Need-returns-2
 returns-2 c =
-    let a = c .before .before .before .before .before .before .args in
-    let x = lent (a .input .now) (a .lines .now) (a .energies .now) in
+    let a = c .before .before .before .before .before .args in
+    let x = lent (a .input .now) (a .lines .now) in
     says-3 (a .c) x (c .before .before .before .valid .ensures) (c .before .before .if1 .left) (λ e. omega arith)
 
 returns-3 : tie.Need-returns-3
 returns-3 c =
-    let a = c .before .before .before .before .before .before .before .args in
-    let x = lent (a .input .now) (a .lines .now) (a .energies .now) in
+    let a = c .before .before .before .before .before .before .args in
+    let x = lent (a .input .now) (a .lines .now) in
     says-4 (a .c) x (c .before .before .before .before .valid .ensures) (c .before .before .before .if1 .left) (omega arith) (λ e. omega arith)
-
-nb-requires : tie.Need-nb-requires
-nb-requires c κs = search needs
 
 returns-4 : tie.Need-returns-4
 returns-4 c =
-    let a = c .before .before .before .before .before .before .before .before .before .args in
-    let x = lent (a .input .now) (a .lines .now) (a .energies .now) in
-    says-5 (a .c) x (c .before .before .before .before .before .before .valid .ensures) (c .before .before .before .before .before .if1 .left) (omega arith) (omega arith) (λ e. omega arith)
-
-returns-5 : tie.Need-returns-5
-returns-5 c =
-    let a = c .before .before .before .before .before .before .before .before .before .args in
-    let x = lent (a .input .now) (a .lines .now) (a .energies .now) in
-    says-0 (a .c) x (c .before .before .before .before .before .before .valid .ensures) (c .before .before .before .before .before .if1 .left) (omega arith) (omega arith) (omega arith)
+    let a = c .before .before .before .before .before .before .args in
+    let x = lent (a .input .now) (a .lines .now) in
+    says-0 (a .c) x (c .before .before .before .before .valid .ensures) (c .before .before .before .if1 .left) (omega arith) (omega arith)
 
 pub number-spec : {M : Type 1} → statement M
-number-spec = tie.close (tie.spec valid-requires returns nf-requires returns-2 returns-3 nb-requires returns-4 returns-5)
+number-spec = tie.close (tie.spec valid-requires returns nf-requires returns-2 returns-3 returns-4)

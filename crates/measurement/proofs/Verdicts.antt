@@ -1,0 +1,88 @@
+-- What `measures` says, case by case, as the code's tests have it. Assumes nothing.
+use mathlib.Core.Path.{_≡_, refl, sym, ap, subst, _∙_}
+use mathlib.Core.Bool.{Bool, true, false, not, cond}
+use mathlib.Core.List.{List}
+use Prim.Native.Nat.{ℕ, zero, suc, _≤_, _<_}
+use native.Mathlib.Omega.{arith}
+use lib.Dec.{T, eqb, ltb, eqb→eq}
+use lib.ListN.{length}
+use lib.Ieee.{Float}
+use borrow.Author.Tests.{not-true, not-false, eq-eqb, ne-eqb, lt-ltb, le-ltb}
+use Rattle.laws.specs.Lists.{first}
+use Rattle.laws.specs.Passes.{passes6}
+use Rattle.config.specs.Config.{valid, nf, nb}
+use Rattle.config.specs.declared.Verdict.{Verdict}
+use Rattle.measurement.specs.Measurement.{energiesOf, flagOf, Lent, Given, number, verdict, accepted, measured, measures}
+
+-- the verdict, from the tests one after the other; v is what the code's test of the configuration gave, k what its search gave
+module _ (c : ℕ) (x : Lent) {v : Bool} (e : v ≡ valid c) where
+  abbrev Says : ℕ → ℕ → Type 0
+  Says n i = _≡_ {A = Verdict} (record { number = n; index = i }) (verdict (number c x) x)
+
+  pub says-1 : not v ≡ true → Says 1 0
+  says-1 h = rw (sym e ∙ not-true v h)
+
+  module _ (h : not v ≡ false) where
+    ok : valid c ≡ true
+    ok = sym e ∙ not-false v h
+
+    pub says-3 : (length (x .lines) ≡ nf c → ⊥) → Says 3 0
+    says-3 a = rw (ok, ne-eqb _ _ a)
+
+    module _ (a : length (x .lines) ≡ nf c) where
+      pub says-5 : (length (x .energies) ≡ nb c → ⊥) → Says 5 0
+      says-5 b = rw (ok, eq-eqb _ _ a, ne-eqb _ _ b)
+
+      module _ (b : length (x .energies) ≡ nb c) {k : ℕ} (f : k ≡ first passes6 (x .lines)) where
+        pub says-6 : k < length (x .lines) → Says 6 k
+        says-6 d = rw (ok, eq-eqb _ _ a, eq-eqb _ _ b, lt-ltb _ _ (subst (λ (j : ℕ). j < length (x .lines)) f d), f)
+
+        pub says-0 : length (x .lines) ≤ k → Says 0 0
+        says-0 d = rw (ok, eq-eqb _ _ a, eq-eqb _ _ b, le-ltb _ _ (subst (λ (j : ℕ). length (x .lines) ≤ j) f d))
+
+-- a refused call
+pub refused : (c : ℕ) (x : Lent) (v : Verdict) → v ≡ verdict (number c x) x → (v .number ≡ 0 → ⊥)
+    → _≡_ {A = Given} (record { number = v .number; index = v .index; flag = false; energies = x .energies }) (measures c x)
+unfolding measures
+refused c x v e h = ap (λ (w : Verdict). record { number = w .number; index = w .index; flag = false; energies = x .energies }) e ∙ go (number c x) (λ n. h (ap (λ (w : Verdict). w .number) e ∙ n))
+  where
+    go : (n : ℕ) → (n ≡ 0 → ⊥) → _≡_ {A = Given} (record { number = n; index = verdict n x .index; flag = false; energies = x .energies }) (measured n c x)
+    go zero h = absurd (h refl)
+    go (suc n) h = refl
+
+-- what a call that is not refused has passed
+pub record Passed (c : ℕ) (x : Lent) : Type 0 where
+  pub is-valid : T (valid c)
+  pub lines-is : length (x .lines) ≡ nf c
+  pub energies-is : length (x .energies) ≡ nb c
+  pub pass : T (not (ltb (first passes6 (x .lines)) (length (x .lines))))
+
+pub passed : (c : ℕ) (x : Lent) → number c x ≡ 0 → Passed c x
+passed c x e =
+    let p = later (valid c) _ 0 e in
+    let q = later (eqb (length (x .lines)) (nf c)) _ 2 (p .1) in
+    let r = later (eqb (length (x .energies)) (nb c)) _ 4 (q .1) in
+    record {
+      is-valid = p .0;
+      lines-is = eqb→eq _ _ (q .0);
+      energies-is = eqb→eq _ _ (r .0);
+      pass = last (ltb (first passes6 (x .lines)) (length (x .lines))) (r .1);
+    }
+  where
+    -- a test that was passed, and the number of those after it
+    later : (b : Bool) (m k : ℕ) → cond (not b) (suc k) m ≡ 0 → T b × (m ≡ 0)
+    later true m k e = (tt, e)
+    later false m k e = absurd (omega arith)
+
+    last : (b : Bool) → _≡_ {A = ℕ} (cond b 6 0) 0 → T (not b)
+    last true e = absurd (omega arith)
+    last false e = tt
+
+-- a call that is not refused, and what it has made
+pub made : (c : ℕ) (x : Lent) (v : Verdict) (f : Bool) (es : List Float) → v ≡ verdict (number c x) x → v .number ≡ 0
+    → es ≡ energiesOf c (x .lines) → f ≡ flagOf c es → _≡_ {A = Given} (record { number = 0; index = 0; flag = f; energies = es }) (measures c x)
+unfolding measures
+made c x v f es e z p q =
+    let r : f ≡ flagOf c (energiesOf c (x .lines)) = q ∙ ap (flagOf c) p in
+    let n : number c x ≡ 0 = sym (ap (λ (w : Verdict). w .number) e) ∙ z in
+    (λ i. record { number = 0; index = 0; flag = r i; energies = p i }) ∙ ap (λ (m : ℕ). measured m c x) (sym n)

@@ -1,0 +1,95 @@
+// The measurement of lines, wherever they come from: the energies of their bands, and the near-Nyquist flag. It knows no channel and no window.
+// Ported from src/encoder/modified_dct.rs of lc3-codec 0.2.0, and changed: a call of its own, a configuration number picks the bands,
+// and a call with wrong lengths or lines is refused.
+ghost use mathlib.Core.Path.{_≡_};
+ghost use lib.Dec.{T};
+ghost use lib.ListN.{length};
+ghost use Rattle.config.specs.Config.{valid, nf, nb};
+ghost use Rattle.measurement.specs.Measurement.{energiesOf, flagOf, number, verdict, measures, lent, outcome};
+use config::Verdict;
+
+#[repr(C)]
+pub struct Measured {
+    pub number: u8,
+    pub index: usize,
+    pub flag: bool,
+}
+
+// Whether the energies lie near the Nyquist frequency. Never at 48 kHz.
+fn is_near_nyquist(c: u8, energies: &[f32]) -> bool
+    requires { ⌜ T (valid c) × (length (now energies) ≡ nb c) ⌝ }
+    ensures { λ r. ⌜ r ≡ flagOf c (now (energies .entry)) ⌝ }
+{
+    if 32000 < config::rate(c) {
+        return false;
+    }
+    measurement_steps::exceeds(energies, energies.len() - config::upper(c))
+}
+
+// The energies of the lines. Where there are as many bands as lines each has one, and the edges, whose table costs more than the energies, are not needed.
+fn apply_energy_estimation(c: u8, lines: &[f32], energies: &mut [f32])
+    requires { ⌜ T (valid c) × (length (now lines) ≡ nf c) × (length (now energies) ≡ nb c) ⌝ }
+    ensures { λ _. ⌜ now (energies .exit) ≡ energiesOf c (now (lines .entry)) ⌝ }
+{
+    if energies.len() == lines.len() {
+        measurement_steps::ones(lines, energies);
+        return;
+    }
+    let edges = config::edges(c);
+    measurement_steps::apply_energy_estimation(lines, &edges, energies);
+}
+
+// The refusal of a call, in the order of document 01's table.
+fn refusal(c: u8, lines: &[f32], energies: &[f32]) -> Verdict
+    ensures { λ r. ⌜ r ≡ verdict (number c (lent (now (lines .entry)) (now (energies .entry)))) (lent (now (lines .entry)) (now (energies .entry))) ⌝ }
+{
+    if !config::valid(c) {
+        return Verdict {
+            number: 1,
+            index: 0,
+        };
+    }
+    if lines.len() != config::nf(c) {
+        return Verdict {
+            number: 3,
+            index: 0,
+        };
+    }
+    if energies.len() != config::nb(c) {
+        return Verdict {
+            number: 5,
+            index: 0,
+        };
+    }
+    let first = laws::first_failing_6(lines);
+    if first < lines.len() {
+        return Verdict {
+            number: 6,
+            index: first,
+        };
+    }
+    Verdict {
+        number: 0,
+        index: 0,
+    }
+}
+
+// Entry. The energies of nf lines and their flag. A refusal writes nothing.
+pub fn measure(config: u8, lines: &[f32], energies: &mut [f32]) -> Measured
+    ensures { λ r. ⌜ outcome r (now (energies .exit)) ≡ measures config (lent (now (lines .entry)) (now (energies .entry))) ⌝ }
+{
+    let v = refusal(config, lines, energies);
+    if v.number != 0 {
+        return Measured {
+            number: v.number,
+            index: v.index,
+            flag: false,
+        };
+    }
+    apply_energy_estimation(config, lines, energies);
+    Measured {
+        number: 0,
+        index: 0,
+        flag: is_near_nyquist(config, energies),
+    }
+}

@@ -1,0 +1,101 @@
+-- `singles` meets its contract. The loop's invariant: the bands of the first q fours are of one line each, and their places of `out` are filled. Assumes nothing.
+use mathlib.Core.Path.{_≡_}
+use Prim.Native.Nat.{ℕ, _+_, _-_, _*_, _/_, _≤_, _<_}
+use native.Mathlib.Omega.{arith}
+use lib.ListN.{length}
+use lib.Ieee.{nan}
+use borrow.Author.Count.{below-more}
+use borrow.Author.Needs.{needs}
+use borrow.Author.Tests.{not-true, not-false}
+use Rattle.laws.proofs.Lists.{Filled, filled-none}
+use Rattle.measurement_steps.specs.Energy.{energy, bandOf}
+use Rattle.measurement_steps.proofs.Bands.{Apart, apart-energy, apart-inside}
+use Rattle.measurement_steps.proofs.Filled.{filled-on}
+use Rattle.measurement_steps.proofs.singles.Statement.{statement}
+use Rattle.measurement_steps.proofs.singles.Tie as tie
+
+abbrev Inv-loop : tie.InvT-loop
+Inv-loop lines edges out₀ q₀ out q =
+    (q ≤ length out₀ / 4) × ((p : ℕ) → p < q → Apart edges (4 * p)) × Filled (λ (b : ℕ). energy (bandOf edges lines b)) out₀ (4 * q) out
+
+abbrev μ-loop : tie.MeasureT-loop
+μ-loop lines edges out₀ q₀ out q = length out₀ / 4 - q
+
+loop-holds : tie.Need-loop-holds Inv-loop μ-loop
+loop-holds c = (omega arith, λ p b. absurd (omega arith), filled-none _ _)
+
+mul-apart : tie.Need-mul-apart Inv-loop μ-loop
+mul-apart c = search needs
+
+apart-requires : tie.Need-apart-requires Inv-loop μ-loop
+apart-requires c κs = (omega arith, omega (arith, c .before .before .before .before .before .pre .2 (4 * c .before .loop .q) (omega arith)))
+
+same-length : tie.Need-same-length Inv-loop μ-loop
+same-length c = search needs
+
+returns : tie.Need-returns Inv-loop μ-loop
+returns c =
+    let inv = c .before .before .before .loop .inv in
+    (omega arith, inv .1, λ l. c .before .apart .ensures .1 (not-true _ (c .if1 .taken)), inv .2 .holds)
+
+mul-single : tie.Need-mul-single Inv-loop μ-loop
+mul-single c = search needs
+
+mul-single-2 : tie.Need-mul-single-2 Inv-loop μ-loop
+mul-single-2 c = search needs
+
+shared-slice-read-single : tie.Need-shared-slice-read-single Inv-loop μ-loop
+shared-slice-read-single c = search needs
+
+mul-single-3 : tie.Need-mul-single-3 Inv-loop μ-loop
+mul-single-3 c = search needs
+
+single-requires : tie.Need-single-requires Inv-loop μ-loop
+single-requires c κs =
+    let s = c .before .before .before .before .before .before .before .before .before in
+    let each = c .before .before .before .apart .ensures .0 (not-false _ (c .before .before .if1 .left)) in
+    (apart-inside (s .args .edges .now) (4 * c .before .before .before .before .before .loop .q) each (length (s .args .out .now)) (length (s .args .lines .now)) (omega arith) (s .pre .2), omega arith)
+
+add-q : tie.Need-add-q Inv-loop μ-loop
+add-q c = search needs
+
+loop-less : tie.Need-loop-less Inv-loop μ-loop
+loop-less c = search needs
+
+loop-again : tie.Need-loop-again Inv-loop μ-loop
+loop-again c =
+    let a = c .before .before .before .before .before .before .before .before .before .before .before .before .args in
+    let l = c .before .before .before .before .before .before .before .before .loop in
+    let each = c .before .before .before .before .before .before .apart .ensures .0 (not-false _ (c .before .before .before .before .before .if1 .left)) in
+    let e : 4 * l .q + 4 ≡ 4 * (l .q + 1) = omega arith in
+    (omega arith, below-more _ _ (l .inv .1) each, rw (c .before .before .single .ensures) (rw e at (filled-on 4 _ nan (l .inv .2) (omega arith) (apart-energy (a .edges .now) (4 * l .q) each (a .lines .now)))))
+
+same-length-2 : tie.Need-same-length-2 Inv-loop μ-loop
+same-length-2 c = search needs
+
+returns-2 : tie.Need-returns-2 Inv-loop μ-loop
+returns-2 c =
+    let inv = c .before .loop .inv in
+    (omega arith, inv .1, λ l. absurd (omega arith), inv .2 .holds)
+
+pub singles-spec : {M : Type 1} → statement M
+singles-spec =
+    tie.close
+    (tie.spec
+    Inv-loop
+    μ-loop
+    loop-holds
+    mul-apart
+    apart-requires
+    same-length
+    returns
+    mul-single
+    mul-single-2
+    shared-slice-read-single
+    mul-single-3
+    single-requires
+    add-q
+    loop-less
+    loop-again
+    same-length-2
+    returns-2)
