@@ -15,7 +15,7 @@ use Rattle.laws.specs.Passes.{passes7}
 use Rattle.config.specs.Config.{valid, nf, nb, edges}
 use Rattle.config.proofs.Sound.{sound}
 use Rattle.measurement_steps.specs.Energy.{sumOf, share, energy, bandOf, energies}
-use Rattle.analysis.specs.Analysis.{energiesOf}
+use Rattle.measurement.specs.Measurement.{energiesOf}
 use Rattle.bounds.specs.Within.{Within, Each, none, also}
 use Rattle.bounds.specs.Size.{Size}
 use Rattle.bounds.proofs.Bound.{Room, room, Plus, round-plus, plus, product, AtLeast, quotient, part-pos, more, raise, plain, sized, zero-size, whole-at-least, whole-plus}

@@ -11,7 +11,7 @@ use lib.Dec.{T, eqb}
 use lib.ListN.{length, getD, drop, replicate, length-drop, length-replicate}
 use Rattle.laws.specs.Lists.{tab}
 use Rattle.laws.proofs.Lists.{length-tab, take-tab, tab-at}
-use Rattle.config.specs.Config.{valid, nf, z, nb}
+use Rattle.config.specs.Config.{valid, nf, z}
 use Rattle.config.proofs.Sound.{sound}
 use Rattle.analysis_steps.proofs.Buffers.{step-of, past-of-step}
 use Rattle.analysis.specs.declared.Channel.{Channel}
@@ -46,9 +46,9 @@ frame-kept a x f =
 
 -- where the array's past is what the definition reads of the frame before, the lines are the definition's
 reads : (c : ℕ) (s : List ℤ) (f : Option (List ℤ)) → T (valid c) → past c s ≡ drop (z c) (previous c f)
-    → (x : List ℤ) → given c (linesOf c (past c s) x) ≡ given c (mdct c (buffer c (previous c f) x))
+    → (x : List ℤ) → given (linesOf c (past c s) x) ≡ given (mdct c (buffer c (previous c f) x))
 unfolding linesOf timeBuffer
-reads c s f v r x = ap (λ (t : List ℤ). given c (mdct c t)) (step-of (nf c) (z c) (past c s) (past-fits c s v) x ∙ ap (λ (p : List ℤ). p ++ x ++ replicate (z c) (pos 0)) r)
+reads c s f v r x = ap (λ (t : List ℤ). given (mdct c t)) (step-of (nf c) (z c) (past c s) (past-fits c s v) x ∙ ap (λ (p : List ℤ). p ++ x ++ replicate (z c) (pos 0)) r)
 
 read-none : (c : ℕ) → T (valid c) → past c (keeps c none) ≡ drop (z c) (previous c none)
 read-none c v =
@@ -61,21 +61,21 @@ read-none c v =
 read-some : (c : ℕ) (f : List ℤ) → Fits nf c f → past c (keeps c (some f)) ≡ drop (z c) f
 read-some c f h = tab-at (drop (z c) f) (replicate (300 - (nf c - z c)) (pos 0)) (pos 0) (nf c - z c) (length-drop (z c) f ∙ ap (λ (n : ℕ). n - z c) (h .length-is))
 
-lawful : Lawful analysis
+pub lawful : Lawful analysis
 unfolding cleared frames
 lawful =
     record {
       size = nf;
       new = silent;
       keeps = keeps;
-      answer = λ c s x. given c (linesOf c (past c s) x);
+      answer = λ c s x. given (linesOf c (past c s) x);
       clearing = λ b c. (clearing b c .number, clearing b c .channel);
       cleared-by = λ c. refl;
       clear-accepted = λ c. refl;
       clear-refused = λ c. tt;
       new-config = λ c. refl;
       new-kept = λ c. refl;
-      rest = λ c x. cond (not (eqb (length (x .lines)) (nf c))) 4 (cond (not (eqb (length (x .energies)) (nb c))) 5 0);
+      rest = λ c x. cond (not (eqb (length (x .lines)) (nf c))) 4 0;
       number-is = λ c x. refl;
       framed = framed;
       framed-by = λ a x. refl;

@@ -17,7 +17,7 @@ use Rattle.kf_work.specs.Work.{plan}
 use Rattle.analysis_steps.specs.Buffer.{pastOf, bufferStep}
 use Rattle.analysis_steps.specs.Fold.{weighed, foldLow, foldHigh, folded}
 use Rattle.measurement_steps.specs.Energy.{total, exceeds}
-use Rattle.analysis.specs.Analysis.{flagOf}
+use Rattle.measurement.specs.Measurement.{flagOf}
 use Rattle.synthesis_steps.specs.Places.{mirrored, unfolded, output, remains}
 use Rattle.loudest.specs.declared.Loudest.the-variants.{Quiet}
 use Rattle.loudest.specs.Loudest.{First, heard, told, refusal, loudest, loud, best, silent, paper}

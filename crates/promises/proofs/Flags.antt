@@ -4,7 +4,7 @@ use lib.Ieee.{ofBits, add, mul, lt}
 use Rattle.config.specs.Tables.{rows}
 use Rattle.config.specs.Config.{row}
 use Rattle.measurement_steps.specs.Energy.{total, exceeds}
-use Rattle.analysis.specs.Analysis.{flagOf}
+use Rattle.measurement.specs.Measurement.{flagOf}
 use Rattle.promises.specs.Flags.{Flags}
 
 pub flags : Flags

@@ -216,6 +216,9 @@ module _ (k : Kind) (l : Lawful k) where
   shared c (other-refused {q} {qs} {rs} t r) a b p h j =
       subst (λ (d : k .Channel). Agree k (after k a qs) (after k d rs)) (sym (stays-at b c (j .config) q t)) (shared c r a b p h j)
 
+  pub configured : (c : ℕ) (a : k .Channel) → clears k c ≡ some a → (qs : List (Call (k .Lent))) → k .config (after k a qs) ≡ recall k (fresh c) qs .config
+  configured c a e qs = steps a (fresh c) (accepted-clear c a e) qs .config
+
   pub demand3 : Demand3 k
   demand3 =
       record {

@@ -9,4 +9,5 @@ pub mod Flags
 pub mod Papers
 pub mod Short
 pub mod NoOverflow
+pub mod Apart
 pub mod Reached

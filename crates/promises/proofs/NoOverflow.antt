@@ -22,7 +22,8 @@ use Rattle.analysis_steps.specs.Buffer.{pastOf, bufferStep, bufferOf}
 use Rattle.measurement_steps.specs.Energy.{energies}
 use Rattle.analysis_lines.specs.Lines.{timeBuffer, linesOf}
 use Rattle.analysis.specs.declared.Channel.{Channel}
-use Rattle.analysis.specs.Analysis.{Lent, Given, energiesOf, keptOf, held, clearing, cleared, number, framed, frames, lent}
+use Rattle.analysis.specs.Analysis.{Lent, Given, keptOf, held, clearing, cleared, number, framed, frames, lent}
+use Rattle.measurement.specs.Measurement.{energiesOf}
 use Rattle.analysis.proofs.Frames.{says-0, passed}
 use Rattle.synthesis.specs.declared.Channel as synthesisChannel
 use Rattle.synthesis.specs.Synthesis as synthesisCalls
@@ -73,28 +74,28 @@ frame-held a x s h = go (number (a .config) x)
     go zero = let c = a .config in each-append (each-take (nf c - z c) (each-drop (nf c) (buffer-each c (past-each a h) s))) (zeros (300 - (nf c - z c)))
     go (suc n) = h
 
--- ---- analysis: of what a call on such a channel gives, where it is not refused
-abbrev Taken : (Given → Type 0) → Type 0
-Taken P = (a : Channel) → T (valid (a .config)) → Held a → (x : Lent) → Each Sample (x .input) → P (framed 0 a x .0)
+-- ---- analysis: of the lines that a call on such a channel gives, where it is not refused
+abbrev pub Taken : (ℕ → List Float → Type 0) → Type 0
+Taken P = (a : Channel) → T (valid (a .config)) → Held a → (x : List ℤ) → Each Sample x → P (a .config) (linesOf (a .config) (held a) x)
 
-accepted : (P : Given → Type 0) → Taken P → OnAny P
+pub accepted : (P : ℕ → List Float → Type 0) → Taken P → OnAny P
 unfolding frames
 accepted P h a s x i e = go (number (a .config) x) refl e
   where
-    go : (n : ℕ) → number (a .config) x ≡ n → framed n a x .0 .number ≡ 0 → P (framed n a x .0)
-    go zero p e = h a (passed (a .config) x p .0) s x i
+    go : (n : ℕ) → number (a .config) x ≡ n → framed n a x .0 .number ≡ 0 → P (a .config) (framed n a x .0 .lines)
+    go zero p e = h a (passed (a .config) x p .0) s (x .input) i
     go (suc n) p e = absurd (omega arith)
 
-from-clear : (P : Given → Type 0) → OnAny P → FromClear P
+pub from-clear : (P : ℕ → List Float → Type 0) → OnAny P → FromClear P
 from-clear P h c a e qs s x i n = h (after analysis a qs) (kept analysis Held Sampled clear-held frame-held c a e s) x i n
 
-lines-each : Taken Lines
+pub lines-each : Taken Lines
 unfolding linesOf
 lines-each a v s x i = lines-bound (a .config) v _ (buffer-each (a .config) (past-each a s) i)
 
 energies-each : Taken Energies
 unfolding linesOf
-energies-each a v s x i = energies-bound 30 (lit≤ tt) (a .config) v _ (length-mdct (a .config) v (timeBuffer (a .config) (held a) (x .input))) (lines-each a v s x i)
+energies-each a v s x i = energies-bound 30 (lit≤ tt) (a .config) v _ (length-mdct (a .config) v (timeBuffer (a .config) (held a) x)) (lines-each a v s x i)
 
 -- the loudest band takes them: as many as the configuration has bands, and all pass 7
 hears : (c : ℕ) → T (valid c) → (l : List Float) → Each (λ x. T (passes7 x)) (energiesOf c l) → paper (heard (energiesOf c l)) .number ≡ 0
@@ -106,7 +107,7 @@ hears c v l a =
     rw (some, eq-eqb (first passes7 (energiesOf c l)) (length (energiesOf c l)) (sym all))
 
 hears-each : Taken Hears
-hears-each a v s x i = hears (a .config) v (linesOf (a .config) (held a) (x .input)) (each-weaken (λ x h. h .0) (energies-each a v s x i))
+hears-each a v s x i = hears (a .config) v (linesOf (a .config) (held a) x) (each-weaken (λ x h. h .0) (energies-each a v s x i))
 
 -- ---- the listing's frames
 sample-signed : (n : ℕ) → Sample (signed n)

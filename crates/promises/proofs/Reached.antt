@@ -20,7 +20,8 @@ use Rattle.analysis_steps.specs.Buffer.{pastOf, bufferStep, bufferOf}
 use Rattle.analysis_steps.specs.Fold.{weighed, foldLow, foldHigh, folded, gained}
 use Rattle.measurement_steps.specs.Energy.{share, energy, bandOf, energies}
 use Rattle.analysis_lines.specs.Lines.{timeBuffer, mdct, linesOf}
-use Rattle.analysis.specs.Analysis.{energiesOf, cleared, frames}
+use Rattle.analysis.specs.Analysis.{cleared, frames}
+use Rattle.measurement.specs.Measurement.{energiesOf}
 use Rattle.bounds.specs.Within.{Within}
 use Rattle.promises.specs.NoOverflow.{line0, energy0, Reached}
 

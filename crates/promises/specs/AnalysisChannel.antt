@@ -1,6 +1,5 @@
 -- The analysis channel as a kind of channel, by the definitions that the contracts of `clear` and `frame` cite. Definitions only.
 use Prim.Native.Nat.{ℕ}
-use mathlib.Core.Bool.{false}
 use mathlib.Core.Option.{Option, some, none}
 use mathlib.Core.List.{List, _++_}
 use lib.IntN.{ℤ, pos}
@@ -10,7 +9,7 @@ use Rattle.config.specs.Config.{nf, z}
 use Rattle.config.specs.Refusals as refusals
 use Rattle.analysis.specs.declared.Channel.{Channel}
 use Rattle.analysis_lines.specs.Lines.{mdct}
-use Rattle.analysis.specs.Analysis.{Lent, Given, energiesOf, flagOf, number, cleared, frames}
+use Rattle.analysis.specs.Analysis.{Lent, Given, number, cleared, frames}
 use Rattle.promises.specs.Sequence.{Kind}
 
 -- the frame before; where there was none, a frame of zero samples
@@ -23,16 +22,16 @@ abbrev pub buffer : ℕ → List ℤ → List ℤ → List ℤ
 buffer c f x = drop (z c) f ++ x ++ replicate (z c) (pos 0)
 
 -- what an accepted call gives, by its lines
-abbrev pub given : ℕ → List Float → Given
-given c l = record { number = refusals.accepted; flag = flagOf c (energiesOf c l); lines = l; energies = energiesOf c l }
+abbrev pub given : List Float → Given
+given l = record { number = refusals.accepted; lines = l }
 
 -- THE DEFINITION's value on a configuration, the frame before and the frame: the lines are fold, DCT and gain of that time buffer
 abbrev pub value : ℕ → Option (List ℤ) → List ℤ → Given
-value c f x = given c (mdct c (buffer c (previous c f) x))
+value c f x = given (mdct c (buffer c (previous c f) x))
 
--- beside a refusal's number the flag is false, and the lent slices are as they were
+-- beside a refusal's number the lent slice is as it was
 abbrev pub refusal : ℕ → Lent → Given
-refusal n x = record { number = n; flag = false; lines = x .lines; energies = x .energies }
+refusal n x = record { number = n; lines = x .lines }
 
 abbrev pub analysis : Kind
 analysis =

@@ -12,7 +12,7 @@ use Rattle.laws.specs.Passes.{passes6}
 use Rattle.kf_work.specs.Work.{plan}
 use Rattle.analysis_steps.specs.Buffer.{bufferStep}
 use Rattle.analysis_steps.specs.Fold.{folded}
-use Rattle.analysis.specs.Analysis.{flagOf}
+use Rattle.measurement.specs.Measurement.{flagOf}
 use Rattle.laws.specs.Numbers.{zero32}
 use Rattle.synthesis_steps.specs.Places.{unfolded, output, remains}
 use Rattle.synthesis.specs.Synthesis.{Lent, number, index}

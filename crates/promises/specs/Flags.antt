@@ -8,7 +8,7 @@ use lib.ListN.{replicate}
 use lib.Ieee.{Float, binary32, ofBits}
 use Rattle.laws.specs.Numbers.{zero32}
 use Rattle.config.specs.Config.{configs, nb, upper}
-use Rattle.analysis.specs.Analysis.{flagOf}
+use Rattle.measurement.specs.Measurement.{flagOf}
 
 -- energies of configuration c, zero but band 0 = 1.0 and the first upper band = the value whose bits are b
 abbrev pub edge : ℕ → ℕ → List Float

@@ -7,3 +7,5 @@ pub mod Flags
 pub mod Papers
 pub mod Short
 pub mod NoOverflow
+pub mod Combined
+pub mod Apart

@@ -19,7 +19,8 @@ use Rattle.config.specs.Config.{valid, nf}
 use Rattle.config.specs.Refusals as refusals
 use Rattle.twiddles.specs.Circle.{finite}
 use Rattle.analysis.specs.declared.Channel.{Channel}
-use Rattle.analysis.specs.Analysis.{Lent, Given, energiesOf, cleared, frames, lent}
+use Rattle.analysis.specs.Analysis.{Lent, cleared, frames, lent}
+use Rattle.measurement.specs.Measurement.{energiesOf}
 use Rattle.synthesis.specs.declared.Channel as synthesisChannel
 use Rattle.synthesis.specs.Synthesis as synthesisCalls
 use Rattle.loudest.specs.Loudest.{heard, paper}
@@ -51,29 +52,30 @@ Energy x = T (passes7 x) × Within (2 ^ 61) 1 x
 abbrev pub Finite : Float → Type 0
 Finite x = T (finite x)
 
--- of what a frame gives: its lines, its energies, and that the loudest band takes these
-abbrev pub Lines : Given → Type 0
-Lines g = Each Line (g .lines)
+-- of the lines of an accepted frame, at its configuration: the lines, the energies that a measurement gives of them, and that the loudest band takes these
+abbrev pub Lines : ℕ → List Float → Type 0
+Lines c l = Each Line l
 
-abbrev pub Energies : Given → Type 0
-Energies g = Each Energy (g .energies)
+abbrev pub Energies : ℕ → List Float → Type 0
+Energies c l = Each Energy (energiesOf c l)
 
-abbrev pub Hears : Given → Type 0
-Hears g = paper (heard (g .energies)) .number ≡ refusals.accepted
+abbrev pub Hears : ℕ → List Float → Type 0
+Hears c l = paper (heard (energiesOf c l)) .number ≡ refusals.accepted
 
 -- the numbers that the listing is told along frames, as `frameLines` goes through them: each frame's, and the loudest band's on its energies
 abbrev pub numbers : Channel → List (List ℤ) → List ℕ
 numbers a [] = []
 numbers a (x ∷ xs) = framed a x .0 .number ∷ paper (heard (framed a x .0 .energies)) .number ∷ numbers (framed a x .1) xs
 
--- P holds of what an accepted frame gives, "for any samples and any history from a clear": after any calls at all, as `by-definition` of demand 3 has them
-abbrev pub FromClear : (Given → Type 0) → Type 0
-FromClear P = (c : ℕ) (a : Channel) → clears analysis c ≡ some a → (qs : List (Call Lent)) → Each Sampled qs
-    → (x : Lent) → Each Sample (x .input) → frames (after analysis a qs) x .0 .number ≡ refusals.accepted → P (frames (after analysis a qs) x .0)
+-- P holds of the configuration and the lines of an accepted frame, "for any samples and any history from a clear": after any calls at all, as `by-definition` of
+-- demand 3 has them
+abbrev pub FromClear : (ℕ → List Float → Type 0) → Type 0
+FromClear P = (c : ℕ) (a : Channel) → clears analysis c ≡ some a → (qs : List (Call Lent)) → Each Sampled qs → (x : Lent) → Each Sample (x .input)
+    → frames (after analysis a qs) x .0 .number ≡ refusals.accepted → P (after analysis a qs .config) (frames (after analysis a qs) x .0 .lines)
 
 -- and on any channel, whatever samples it holds
-abbrev pub OnAny : (Given → Type 0) → Type 0
-OnAny P = (a : Channel) → Each Sample (a .samples) → (x : Lent) → Each Sample (x .input) → frames a x .0 .number ≡ refusals.accepted → P (frames a x .0)
+abbrev pub OnAny : (ℕ → List Float → Type 0) → Type 0
+OnAny P = (a : Channel) → Each Sample (a .samples) → (x : Lent) → Each Sample (x .input) → frames a x .0 .number ≡ refusals.accepted → P (a .config) (frames a x .0 .lines)
 
 pub record NoOverflow : Type 0 where
   -- "every line is finite and at most 2^30 in magnitude"
@@ -96,16 +98,16 @@ pub record NoOverflow : Type 0 where
   pub memory : (c : ℕ) (a : synthesisChannel.Channel) → clears synthesis c ≡ some a → (qs : List (Call synthesisCalls.Lent)) → Each Finite (after synthesis a qs .memory)
 
 -- ---- smaller bounds would be false
--- sixty samples of -32768, with room for the lines and energies of configuration 0
+-- sixty samples of -32768, with room for the lines of configuration 0
 abbrev pub lowest : Lent
-lowest = lent (replicate 60 (negsuc 32767)) (replicate 60 zero32) (replicate 60 zero32)
+lowest = lent (replicate 60 (negsuc 32767)) (replicate 60 zero32)
 
 -- line 0 and energy 0 of that frame, on a channel right after a clear
 abbrev pub line0 : Float
 line0 = getD (frames (cleared 0 .channel) lowest .0 .lines) 0 nan
 
 abbrev pub energy0 : Float
-energy0 = getD (frames (cleared 0 .channel) lowest .0 .energies) 0 nan
+energy0 = getD (energiesOf 0 (frames (cleared 0 .channel) lowest .0 .lines)) 0 nan
 
 -- whole numbers as parts
 abbrev pub both : ℤ → ℤ → Complex

@@ -1,0 +1,94 @@
+-- Document 02 §5, transform and measurement apart: the two calls in turn against the combined call of before, and demand 3 of the two. A row for each sentence.
+-- A measurement has no channel: so the calls on a channel are clears and frames to lines, and measurements, made, refused or left out, may stand anywhere between.
+-- Definitions only.
+use Prim.Native.Nat.{ℕ, zero, suc}
+use mathlib.Core.Path.{_≡_}
+use mathlib.Core.Bool.{Bool, false}
+use mathlib.Core.Option.{Option, some}
+use mathlib.Core.List.{List, _∷_}
+use lib.IntN.{ℤ}
+use lib.Dec.{T}
+use lib.Ieee.{Float}
+use Rattle.laws.specs.Passes.{passes6}
+use Rattle.config.specs.Refusals as refusals
+use Rattle.analysis.specs.declared.Channel.{Channel}
+use Rattle.analysis_lines.specs.Lines.{linesOf}
+use Rattle.analysis.specs.Analysis.{Lent, frames, held, keptOf, channelOf, lent}
+use Rattle.measurement.specs.Measurement as measurement
+use Rattle.measurement.specs.Measurement.{energiesOf, flagOf, measures}
+use Rattle.bounds.specs.Within.{Each}
+use Rattle.promises.specs.Sequence.{Call, frame, fresh, clears, accepts, after, recall, Shared}
+use Rattle.promises.specs.AnalysisChannel.{analysis, value}
+use Rattle.promises.specs.Combined as combined
+use Rattle.promises.specs.NoOverflow.{Sample, FromClear, OnAny}
+
+-- ---- both in turn
+-- what the two give beside the channel: number and index of the first that is refused, the measurement's flag, and the lent slices at their end
+pub record Given : Type 0 where
+  pub number : ℕ
+  pub index : ℕ
+  pub flag : Bool
+  pub lines : List Float
+  pub energies : List Float
+
+-- the second call, by the number of the first: it is made where that was accepted
+abbrev pub measured : ℕ → ℕ → measurement.Lent → measurement.Given
+measured zero c x = measures c x
+measured (suc n) c x = record { number = suc n; index = 0; flag = false; energies = x .energies }
+
+-- of the first call the lines, of the second all else
+abbrev pub joined : List Float → measurement.Given → Given
+joined l m = record { number = m .number; index = m .index; flag = m .flag; lines = l; energies = m .energies }
+
+-- "the second on the first's lines unchanged and the channel's configuration"
+abbrev pub inTurn : Channel → combined.Lent → Given × Channel
+inTurn a x =
+    let f = frames a (lent (x .input) (x .lines)) in
+    (joined (f .0 .lines) (measured (f .0 .number) (a .config) (measurement.lent (f .0 .lines) (x .energies))), f .1)
+
+-- "the old answer", which had no index
+abbrev pub old : Channel → combined.Lent → Given × Channel
+old a x =
+    let g = combined.frames a x in
+    (record { number = g .0 .number; index = 0; flag = g .0 .flag; lines = g .0 .lines; energies = g .0 .energies }, g .1)
+
+-- all of some lines pass 6, at any configuration
+abbrev pub Pass : ℕ → List Float → Type 0
+Pass c l = Each (λ x. T (passes6 x)) l
+
+-- THE DEFINITION's value of the pair on a configuration, the frame before and the frame: the value of its lines, and energies and flag of these
+abbrev pub valued : ℕ → Option (List ℤ) → List ℤ → Given
+valued c f x = let l = value c f x .lines in record { number = refusals.accepted; index = 0; flag = flagOf c (energiesOf c l); lines = l; energies = energiesOf c l }
+
+pub record Apart : Type 0 where
+  -- "doing both in turn .. equals the old answer where both accept": number, flag, lines, energies, and the whole channel; of any channel and any frame.
+  pub in-turn : (a : Channel) (x : combined.Lent) → inTurn a x .0 .number ≡ refusals.accepted → inTurn a x ≡ old a x
+  -- "every line the first call gives, on any samples and any past, is shown to pass 6": of any channel, and after any calls from a clear.
+  pub lines-pass : OnAny Pass
+  pub lines-pass-after : FromClear Pass
+  -- So the second call never gives 6 on them, whatever area it is lent.
+  pub never-6 : OnAny (λ c l. (e : List Float) → measures c (measurement.lent l e) .number ≡ refusals.badValue → ⊥)
+  -- So the pair accepts exactly where the old call did, and gives its number where that refused; of areas of any lengths.
+  pub accepts-alike : (a : Channel) → Each Sample (a .samples) → (x : combined.Lent) → Each Sample (x .input) → inTurn a x .0 .number ≡ old a x .0 .number
+  -- Where the first call refuses, all is as the old call left it: nothing is written, and the channel is the one handed in.
+  pub first-refused : (a : Channel) (x : combined.Lent) → (frames a (lent (x .input) (x .lines)) .0 .number ≡ refusals.accepted → ⊥) → inTurn a x ≡ old a x
+  -- The one difference: where the old call refused the energies' length, the frame is accepted now. Its lines are written and its channel has moved on; the
+  -- measurement alone is refused, and the energies' area is as it was.
+  pub second-refused : (a : Channel) (x : combined.Lent) → old a x .0 .number ≡ refusals.badEnergies
+      → inTurn a x ≡ (
+        record { number = refusals.badEnergies; index = 0; flag = false; lines = linesOf (a .config) (held a) (x .input); energies = x .energies },
+        channelOf (a .config) (keptOf (a .config) (held a) (x .input)),
+      )
+  -- "Demands 2 and 3 speak of the pair so done": over any calls on a channel that an accepted clear gave, what an accepted pair gives is the definition's value on
+  -- the configuration of the last accepted clear, that frame, and the frame accepted before it since that clear, with or without a measurement.
+  pub by-definition : (c : ℕ) (a : Channel) → clears analysis c ≡ some a → (qs : List (Call Lent)) (x : combined.Lent)
+      → inTurn (after analysis a qs) x .0 .number ≡ refusals.accepted
+      → inTurn (after analysis a qs) x .0 ≡ valued (recall analysis (fresh c) qs .config) (recall analysis (fresh c) qs .before) (x .input)
+  -- Two channels of one configuration, whatever their pasts, from the first accepted frame that they share on, while they share every accepted frame: what
+  -- accepted pairs on a frame that they share give is the same, bit for bit.
+  pub agreement : (a b : Channel) → a .config ≡ b .config
+      → (f g : Lent) → f .input ≡ g .input → T (accepts analysis (a .config) f) → T (accepts analysis (b .config) g)
+      → (qs rs : List (Call Lent)) → Shared analysis (a .config) qs rs
+      → (x y : combined.Lent) → x .input ≡ y .input
+      → inTurn (after analysis a (frame f ∷ qs)) x .0 .number ≡ refusals.accepted → inTurn (after analysis b (frame g ∷ rs)) y .0 .number ≡ refusals.accepted
+      → inTurn (after analysis a (frame f ∷ qs)) x .0 ≡ inTurn (after analysis b (frame g ∷ rs)) y .0
