@@ -2,9 +2,9 @@
 use Prim.Native.Nat.{ℕ, zero, suc, _*_, _^_, _≤_, _<_}
 use native.Mathlib.Nat.{le-trans, le-of-eq, mul-one, mul-le-mul-right}
 use native.Mathlib.Omega.{arith}
-use mathlib.Core.Path.{_≡_, refl, sym, ap, subst, _∙_}
+use mathlib.Core.Path.{_≡_, refl, sym, ap, ap₂, subst, _∙_}
 use mathlib.Core.Bool.{Bool, true, false, not, cond}
-use mathlib.Core.List.{List}
+use mathlib.Core.List.{List, _∷_}
 use lib.IntN.{ℤ}
 use lib.Dec.{T, eqb, ltb, le→leb, lit≤}
 use lib.ListN.{length, getD}
@@ -17,6 +17,7 @@ use Rattle.laws.proofs.Lists.{first-none}
 use Rattle.config.specs.Config.{valid, nf, nb}
 use Rattle.analysis_lines.specs.Lines.{timeBuffer, linesOf}
 use Rattle.analysis.specs.declared.Channel.{Channel}
+use Rattle.analysis.specs.Analysis as frame
 use Rattle.analysis.specs.Analysis.{Lent, held, number, framed, frames, lent}
 use Rattle.analysis.proofs.Frames.{passed}
 use Rattle.measurement.specs.Measurement as measurement
@@ -25,11 +26,11 @@ use Rattle.measurement.proofs.Verdicts as verdicts
 use Rattle.bounds.specs.Within.{Within, Each}
 use Rattle.bounds.proofs.Lists.{each-at, each-weaken}
 use Rattle.bounds.proofs.Lines.{length-mdct}
-use Rattle.promises.specs.Sequence.{accepts, after, Agree}
+use Rattle.promises.specs.Sequence.{Call, frame as call, fresh, after, recall, gives}
 use Rattle.promises.specs.AnalysisChannel.{analysis, value}
 use Rattle.promises.specs.Combined as combined
 use Rattle.promises.specs.NoOverflow.{Sample, Line, OnAny}
-use Rattle.promises.specs.Apart.{Given, measured, joined, inTurn, old, Pass, valued, Apart}
+use Rattle.promises.specs.Apart.{Given, measured, joined, inTurn, old, Pass, Never6, Apart}
 use Rattle.promises.proofs.Law.{configured}
 use Rattle.promises.proofs.AnalysisLaw.{lawful, analysis-demand3}
 use Rattle.promises.proofs.NoOverflow.{Taken, accepted, from-clear, lines-each}
@@ -44,7 +45,7 @@ line-passes (fin s m e) h = le→leb _ _ (le-trans (le-of-eq (sym (mul-one (m * 
 pass-each : Taken Pass
 pass-each a v s x i = each-weaken line-passes (lines-each a v s x i)
 
-all-pass : {c : ℕ} (l : List Float) → Pass c l → ltb (first passes6 l) (length l) ≡ false
+all-pass : (l : List Float) → Each (λ x. T (passes6 x)) l → ltb (first passes6 l) (length l) ≡ false
 all-pass l h = le-ltb _ _ (le-of-eq (first-none passes6 l nan (λ k b. is-true _ (each-at nan k h b))))
 
 -- ---- a measurement by its number
@@ -70,6 +71,10 @@ never-6 c l e h n = go (not (valid c)) (not (eqb (length l) (nf c))) (not (eqb (
     go false false true e = omega arith
     go false false false e = omega arith
 
+-- what an accepted pair gives, by its lines
+abbrev paired : ℕ → List Float → Given
+paired c l = joined l (measurement.accepted c l)
+
 -- ---- the pair, by the number of its first call
 module _ (a : Channel) (x : combined.Lent) where
   abbrev c : ℕ
@@ -92,7 +97,7 @@ module _ (a : Channel) (x : combined.Lent) where
   aged n = let g = combined.framed n a x in (record { number = g .0 .number; index = 0; flag = g .0 .flag; lines = g .0 .lines; energies = g .0 .energies }, g .1)
 
   -- the combined call's number: the first call's, and where that is 0 the test of the energies' length, which came last
-  fits : ℕ
+  abbrev fits : ℕ
   fits = cond (not (eqb (length (x .energies)) (nb c))) 5 0
 
   abbrev then : ℕ → ℕ
@@ -100,7 +105,6 @@ module _ (a : Channel) (x : combined.Lent) where
   then (suc n) = suc n
 
   combined-is : combined.number c x ≡ then (number c own)
-  unfolding fits
   combined-is = go (not (valid c)) (not (eqb (length (x .input)) (nf c))) (not (eqb (length (x .lines)) (nf c)))
     where
       go : (p q r : Bool) → cond p 1 (cond q 3 (cond r 4 fits)) ≡ then (cond p 1 (cond q 3 (cond r 4 0)))
@@ -125,9 +129,91 @@ module _ (a : Channel) (x : combined.Lent) where
   in-turn h = go (number c own) h ∙ sym old-is
     where
       go : (n : ℕ) → turned n .0 .number ≡ 0 → turned n ≡ aged (then n)
-      unfolding fits
       go zero h =
           let e = sym (tells c next) ∙ h in
           ap (λ (m : measurement.Given). (joined lines m, framed 0 a own .1)) (by-number c next 0 e)
           ∙ ap aged (sym (ap (λ (b : Bool). cond (not b) 5 0) (eq-eqb _ _ (verdicts.passed c next e .energies-is))))
       go (suc n) h = absurd (omega arith)
+
+  first-refused : (frames a own .0 .number ≡ 0 → ⊥) → inTurn a x ≡ old a x
+  unfolding frames
+  first-refused h = go (number c own) h ∙ sym old-is
+    where
+      go : (n : ℕ) → (framed n a own .0 .number ≡ 0 → ⊥) → turned n ≡ aged (then n)
+      go zero h = absurd (h refl)
+      go (suc n) h = refl
+
+  aged-number : (n : ℕ) → aged n .0 .number ≡ n
+  aged-number zero = refl
+  aged-number (suc n) = refl
+
+  old-number : old a x .0 .number ≡ then (number c own)
+  old-number = ap (λ (g : Given × Channel). g .0 .number) old-is ∙ aged-number (then (number c own))
+
+  second-refused : old a x .0 .number ≡ 5
+      → inTurn a x ≡ (record { number = 5; index = 0; flag = false; lines = lines; energies = x .energies }, framed 0 a own .1)
+  unfolding frames
+  second-refused h = go (number c own) refl (sym old-number ∙ h)
+    where
+      late : (b : Bool) (m : ℕ) → _≡_ {A = ℕ} (cond b 5 0) 5 → cond b 5 m ≡ 5
+      late true m e = refl
+      late false m e = absurd (omega arith)
+
+      not-5 : (p q r : Bool) → _≡_ {A = ℕ} (cond p 1 (cond q 3 (cond r 4 0))) 5 → ⊥
+      not-5 true q r e = omega arith
+      not-5 false true r e = omega arith
+      not-5 false false true e = omega arith
+      not-5 false false false e = omega arith
+
+      go : (n : ℕ) → number c own ≡ n → then n ≡ 5 → turned n ≡ (record { number = 5; index = 0; flag = false; lines = lines; energies = x .energies }, framed 0 a own .1)
+      go zero e h = ap (λ (m : measurement.Given). (joined lines m, framed 0 a own .1)) (by-number c next 5 (second-number e ∙ late (not (eqb (length (x .energies)) (nb c))) (cond (ltb (first passes6 lines) (length lines)) 6 0) h))
+      go (suc n) e h = absurd (not-5 (not (valid c)) (not (eqb (length (x .input)) (nf c))) (not (eqb (length (x .lines)) (nf c))) (e ∙ h))
+
+  accepts-alike : Each Sample (a .samples) → Each Sample (x .input) → inTurn a x .0 .number ≡ old a x .0 .number
+  unfolding frames
+  accepts-alike s i = go (number c own) refl ∙ sym old-number
+    where
+      go : (n : ℕ) → number c own ≡ n → turned n .0 .number ≡ then n
+      go zero e =
+          tells c next
+          ∙ second-number e
+          ∙ ap (λ (b : Bool). cond (not (eqb (length (x .energies)) (nb c))) 5 (cond b 6 0)) (all-pass lines (pass-each a (passed c own e .0) s (x .input) i))
+      go (suc n) e = refl
+
+  -- what an accepted pair gives, by its lines
+  taken : inTurn a x .0 .number ≡ 0 → (number c own ≡ 0) × (inTurn a x .0 ≡ paired c (frames a own .0 .lines))
+  unfolding frames
+  taken h = go (number c own) h
+    where
+      go : (n : ℕ) → turned n .0 .number ≡ 0 → (n ≡ 0) × (turned n .0 ≡ paired c (framed n a own .0 .lines))
+      go zero h = (refl, ap (joined lines) (by-number c next 0 (sym (tells c next) ∙ h)))
+      go (suc n) h = absurd (omega arith)
+
+is-0 : (n : ℕ) → n ≡ 0 → T (eqb n 0)
+is-0 n e = subst (λ (m : ℕ). T (eqb m 0)) (sym e) tt
+
+-- THE STATEMENT
+pub apart : Apart
+apart =
+    record {
+      in-turn = in-turn;
+      lines-pass = accepted Pass pass-each;
+      lines-pass-after = from-clear Pass (accepted Pass pass-each);
+      never-6 = accepted Never6 (λ a v s x i e. never-6 (a .config) (linesOf (a .config) (held a) x) e (pass-each a v s x i));
+      accepts-alike = λ a s x i. accepts-alike a x s i;
+      first-refused = first-refused;
+      second-refused = second-refused;
+      by-definition = λ c a e qs x n.
+          let d = after analysis a qs in
+          let p = recall analysis (fresh c) qs in
+          let t = taken d x n in
+          let same = configured analysis lawful c a e qs in
+          let zero-is = ap (λ (m : ℕ). number m (own d x)) (sym same) ∙ t .0 in
+          let gives-0 = analysis-demand3 .by-definition c a e qs (own d x) ∙ ap (λ (m : ℕ). gives analysis m (p .config) (p .before) (own d x)) zero-is in
+          t .1 ∙ ap₂ paired same (ap (λ (g : frame.Given). g .lines) gives-0);
+      agreement = λ a b e f g o s t qs rs r x y i m n.
+          let h = analysis-demand3 .agreement a b e f g o s t qs rs r in
+          let tx = taken (after analysis a (call f ∷ qs)) x m in
+          let ty = taken (after analysis b (call g ∷ rs)) y n in
+          tx .1 ∙ ap₂ paired (h .configs) (ap (λ (g : frame.Given). g .lines) (h .answers _ _ i (is-0 _ (tx .0)) (is-0 _ (ty .0)))) ∙ sym (ty .1);
+    }

@@ -56,6 +56,10 @@ old a x =
 abbrev pub Pass : ℕ → List Float → Type 0
 Pass c l = Each (λ x. T (passes6 x)) l
 
+-- the second call, on some lines and whatever area it is lent, does not give 6
+abbrev pub Never6 : ℕ → List Float → Type 0
+Never6 c l = (e : List Float) → measures c (measurement.lent l e) .number ≡ refusals.badValue → ⊥
+
 -- THE DEFINITION's value of the pair on a configuration, the frame before and the frame: the value of its lines, and energies and flag of these
 abbrev pub valued : ℕ → Option (List ℤ) → List ℤ → Given
 valued c f x = let l = value c f x .lines in record { number = refusals.accepted; index = 0; flag = flagOf c (energiesOf c l); lines = l; energies = energiesOf c l }
@@ -66,8 +70,8 @@ pub record Apart : Type 0 where
   -- "every line the first call gives, on any samples and any past, is shown to pass 6": of any channel, and after any calls from a clear.
   pub lines-pass : OnAny Pass
   pub lines-pass-after : FromClear Pass
-  -- So the second call never gives 6 on them, whatever area it is lent.
-  pub never-6 : OnAny (λ c l. (e : List Float) → measures c (measurement.lent l e) .number ≡ refusals.badValue → ⊥)
+  -- So the second call never gives 6 on them.
+  pub never-6 : OnAny Never6
   -- So the pair accepts exactly where the old call did, and gives its number where that refused; of areas of any lengths.
   pub accepts-alike : (a : Channel) → Each Sample (a .samples) → (x : combined.Lent) → Each Sample (x .input) → inTurn a x .0 .number ≡ old a x .0 .number
   -- Where the first call refuses, all is as the old call left it: nothing is written, and the channel is the one handed in.
