@@ -122,7 +122,7 @@ fn read_lines(fd: i32, out: &mut [f32])
     floats_by(fd, out, &mut buf[..n]);
 }
 
-// The next frame of the file, analysed in the slices lent.
+// The next frame of the file, analysed and measured in the slices lent.
 fn analyse_in(
     fd: i32,
     channel: analysis::Channel,
@@ -133,8 +133,10 @@ fn analyse_in(
     requires { ⌜ (length (now frame) ≤ 480) × (length (now lines) ≤ 480) × (length (now energies) ≤ 480) ⌝ }
 {
     read_samples(fd, frame);
-    let framed = channel.frame(frame, lines, energies);
+    let config = channel.config;
+    let framed = channel.frame(frame, lines);
     let next = framed.channel;
+    measurement::measure(config, lines, energies);
     let by_lines = held(fd, lines);
     let by_energies = held(fd, energies);
     Analysed {
@@ -144,7 +146,7 @@ fn analyse_in(
     }
 }
 
-// The next frame of the file, analysed.
+// The next frame of the file, analysed and measured.
 fn analyse(fd: i32, channel: analysis::Channel, nf: usize, nb: usize) -> Analysed
     requires { ⌜ (nf ≤ 480) × (nb ≤ 480) ⌝ }
 {

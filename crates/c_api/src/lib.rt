@@ -4,6 +4,7 @@ ghost use mathlib.Core.Path.{_≡_};
 ghost use Rattle.kissfft.specs.Fft as ft;
 ghost use Rattle.dct_iv.specs.DctIv as dc;
 ghost use Rattle.analysis.specs.Analysis as an;
+ghost use Rattle.measurement.specs.Measurement as ms;
 ghost use Rattle.synthesis.specs.Synthesis as sy;
 ghost use Rattle.loudest.specs.Loudest.{heard};
 ghost use Rattle.c_api.specs.Layout.{loudestHeard};
@@ -50,23 +51,18 @@ pub extern "C" fn loamscarf_analysis_clear(config: u8) -> analysis::Cleared
     analysis::clear(config)
 }
 
-// Entry. A frame of samples to lines, energies and the flag. Through `Channel::frame` the compiler would copy the channel once more.
+// Entry. A frame of samples to lines. Through `Channel::frame` the compiler would copy the channel once more.
 #[no_mangle]
 pub extern "C" fn loamscarf_analysis_frame(
     mut channel: analysis::Channel,
     input: &[i16],
     lines: &mut [f32],
-    energies: &mut [f32],
 ) -> analysis::Framed
-    ensures { λ r. ⌜ an.frames channel (an.lent (now (input .entry)) (now (lines .entry)) (now (energies .entry))) ≡ an.outcome r (now (lines .exit)) (now (energies .exit)) ⌝ }
+    ensures { λ r. ⌜ an.frames channel (an.lent (now (input .entry)) (now (lines .entry))) ≡ an.outcome r (now (lines .exit)) ⌝ }
 {
     let config = channel.config;
-    let told = analysis::frame_at(config, &mut channel.samples, input, lines, energies);
-    analysis::Framed {
-        number: told.number,
-        flag: told.flag,
-        channel,
-    }
+    let number = analysis::frame_at(config, &mut channel.samples, input, lines);
+    analysis::Framed { number, channel }
 }
 
 // Entry. The same on a channel that stays in the caller's memory, of which it gets the configuration and the samples: nothing of it is copied.
@@ -76,11 +72,22 @@ pub extern "C" fn loamscarf_analysis_frame_at(
     samples: &mut [i16; 300],
     input: &[i16],
     lines: &mut [f32],
-    energies: &mut [f32],
-) -> analysis::Told
-    ensures { λ r. ⌜ an.frames (an.channelOf config (now (samples .entry))) (an.lent (now (input .entry)) (now (lines .entry)) (now (energies .entry))) ≡ an.outcomeAt config r (now (samples .exit)) (now (lines .exit)) (now (energies .exit)) ⌝ }
+) -> u8
+    ensures { λ r. ⌜ an.frames (an.channelOf config (now (samples .entry))) (an.lent (now (input .entry)) (now (lines .entry))) ≡ an.outcomeAt config r (now (samples .exit)) (now (lines .exit)) ⌝ }
 {
-    analysis::frame_at(config, samples, input, lines, energies)
+    analysis::frame_at(config, samples, input, lines)
+}
+
+// Entry. The energies of lines and their flag.
+#[no_mangle]
+pub extern "C" fn loamscarf_measure(
+    config: u8,
+    lines: &[f32],
+    energies: &mut [f32],
+) -> measurement::Measured
+    ensures { λ r. ⌜ ms.outcome r (now (energies .exit)) ≡ ms.measures config (ms.lent (now (lines .entry)) (now (energies .entry))) ⌝ }
+{
+    measurement::measure(config, lines, energies)
 }
 
 // Entry. A fresh synthesis channel.

@@ -1,33 +1,53 @@
--- A frame's answer from what the calls ensure: the lent parts are zeros, and what is read of them is what was written. Assumes nothing.
+-- A frame's answer from what the calls ensure: the lent parts are zeros, and what is measured is what was written. Assumes nothing.
 use mathlib.Core.Path.{_≡_, refl, sym, ap, ap₂, _∙_}
 use mathlib.Core.List.{List, _∷_}
 use Prim.Native.Nat.{ℕ, zero, suc, _≤_}
 use native.Mathlib.Nat.{not-suc-le-zero, le-of-suc-le-suc}
 use lib.IntN.{ℤ}
-use lib.ListN.{take, replicate}
-use lib.Ieee.{Float}
+use native.Mathlib.Omega.{arith}
+use lib.ListN.{length, take, replicate, length-replicate}
+use lib.Seq.{length-take-le}
+use lib.Ieee.{Float, binary32, ofBits}
 use Rattle.config.specs.Config.{nf, nb}
 use Rattle.analysis.specs.declared.Channel.{Channel}
 use Rattle.analysis.specs.declared.Framed.{Framed}
-use Rattle.analysis.specs.Analysis.{frames, lent, outcome}
+use Rattle.analysis.specs.Analysis.{Given, frames, lent, outcome}
+use Rattle.measurement.specs.declared.Measured.{Measured as Gauged}
+use Rattle.measurement.specs.Measurement as ms
 use Rattle.loudest.specs.declared.Heard.{Heard}
 use Rattle.loudest.specs.Loudest.{heard}
 use Rattle.listing.specs.declared.frame.Measured.{Measured}
-use Rattle.listing.specs.Listing.{zeros, measured, listened}
+use Rattle.listing.specs.Listing.{zeros, framed, measured, listened}
 
-pub take-replicate : {A : Type 0} (n m : ℕ) (a : A) → n ≤ m → take n (replicate m a) ≡ replicate n a
+take-replicate : {A : Type 0} (n m : ℕ) (a : A) → n ≤ m → take n (replicate m a) ≡ replicate n a
 take-replicate zero m a h = refl
 take-replicate (suc n) zero a h = absurd (not-suc-le-zero h)
 take-replicate {A} (suc n) (suc m) a h = ap (λ (l : List A). a ∷ l) (take-replicate n m a (le-of-suc-le-suc h))
 
-abbrev answer : Framed → Heard → Measured
-answer r h = record { flag = r .flag; loudest = h .loudest; channel = r .channel }
+-- the first n places of a room of m zeros, n being the k that the configuration says
+module _ {n m k : ℕ} {l : List Float} (p : l ≡ zeros m) (q : n ≡ k) (h : k ≤ m) where
+  pub part-within : n ≤ length l
+  part-within = omega (arith, ap length p, length-replicate m (ofBits binary32 0))
+
+  pub part-length : n ≡ length (take n l)
+  part-length = sym (length-take-le n l part-within)
+
+  pub part-is : take n l ≡ zeros k
+  part-is = ap₂ take q p ∙ take-replicate k m (ofBits binary32 0) h
+
+abbrev told : Given × Channel → ms.Given → Measured
+told g m = record { flag = m .flag; loudest = heard (m .energies) .loudest; channel = g .1 }
+
+abbrev answer : Framed → Gauged → Heard → Measured
+answer r m h = record { flag = m .flag; loudest = h .loudest; channel = r .channel }
 
 module _ (ch : Channel) (x : List ℤ) where
-  pub listened-is : (l e l' e' : List Float) (r : Framed) (h : Heard)
-      → l ≡ zeros (nf (ch .config)) → e ≡ zeros (nb (ch .config)) → frames ch (lent x l e) ≡ outcome r l' e' → h ≡ heard e' → answer r h ≡ listened ch x
+  -- l is lent to the frame call and comes back as l', e to the measurement and comes back as e'
+  pub listened-is : (l l' e e' : List Float) (r : Framed) (m : Gauged) (h : Heard)
+      → l ≡ zeros (nf (ch .config)) → e ≡ zeros (nb (ch .config))
+      → frames ch (lent x l) ≡ outcome r l' → ms.outcome m e' ≡ ms.measures (ch .config) (ms.lent l' e) → h ≡ heard e' → answer r m h ≡ listened ch x
   unfolding listened
-  listened-is l e l' e' r h p q f k =
-      ap (answer r) k
-      ∙ ap measured (sym f)
-      ∙ ap₂ (λ (a b : List Float). measured (frames ch (lent x a b))) p q
+  listened-is l l' e e' r m h p q f g k =
+      let f' : outcome r l' ≡ framed ch x = sym f ∙ ap (λ (a : List Float). frames ch (lent x a)) p in
+      let g' : ms.outcome m e' ≡ measured ch x = g ∙ ap₂ (λ (a b : List Float). ms.measures (ch .config) (ms.lent a b)) (ap (λ (y : Given × Channel). y .0 .lines) f') q in
+      ap (answer r m) k ∙ ap₂ told f' g'

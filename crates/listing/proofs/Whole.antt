@@ -1,10 +1,10 @@
 -- THE THEOREM: the header's line, a line for each record and the last line together are the listing of the file, for any file of fewer than
 -- 2^64 frames. A step reads no more than a frame's bytes, and the header's no more than six. Assumes nothing.
-use mathlib.Core.Path.{_≡_, refl, sym, ap, ap₂, _∙_, subst}
-use mathlib.Core.Logic.{_⊎_, inl, inr, ⊎-elim}
+use mathlib.Core.Path.{_≡_, refl, sym, ap, _∙_, subst}
+use mathlib.Core.Logic.{⊎-elim}
 use mathlib.Core.Bool.{Bool, true, false, cond}
-use mathlib.Core.List.{List, [], _∷_, _++_, append-assoc}
-use Prim.Native.Nat.{ℕ, zero, suc, _+_, _-_, _*_, _^_, _≤_, _<_}
+use mathlib.Core.List.{List, _++_, append-assoc}
+use Prim.Native.Nat.{ℕ, zero, suc, _+_, _-_, _^_, _≤_, _<_}
 use native.Mathlib.Nat.{not-suc-le-zero, zero-add, add-zero}
 use native.Mathlib.Numerals.{add-one}
 use native.Mathlib.Omega.{arith}
@@ -12,11 +12,11 @@ use lib.Dec.{T, ltb, eqb}
 use lib.IntN.{ℤ}
 use lib.ListN.{length, take, drop, getD, length-drop}
 use lib.Seq.{take-all, take-take, length-take-le, getD-take}
-use borrow.Author.Tests.{lt-ltb, le-ltb, eq-eqb, ne-eqb, ltb-true, ltb-false}
-use Rattle.config.specs.Config.{valid, nf, nb}
+use borrow.Author.Tests.{lt-ltb, le-ltb, ne-eqb, ltb-true, ltb-false}
+use Rattle.config.specs.Config.{valid, nf}
 use Rattle.config.proofs.Sound.{sound}
 use Rattle.analysis.specs.declared.Channel.{Channel}
-use Rattle.analysis.specs.Analysis.{Lent, Given, number, framed as called, frames, lent, cleared, clearing}
+use Rattle.analysis.specs.Analysis.{Lent, number, framed as called, frames, lent, cleared, clearing}
 use Rattle.frame_file.specs.declared.Header.{Header}
 use Rattle.frame_file.specs.declared.Header.the-variants.{Good, Short, Unmarked, Foreign, Unknown}
 use Rattle.frame_file.specs.declared.Record.{Record}
@@ -24,9 +24,8 @@ use Rattle.frame_file.specs.declared.Record.the-variants.{Frame, End, Cut, Astr
 use Rattle.frame_file.specs.File.{lmf, byte, short, samples, marked, headerOf, frameBytes, recordOf, Contents, more, ended, reading, contents}
 use Rattle.listing.specs.declared.Lister.{Lister}
 use Rattle.listing.specs.declared.Stepped.{Stepped}
-use Rattle.listing.specs.declared.frame.Measured.{Measured}
-use Rattle.listing.specs.Text.{firstLine, refusedLine}
-use Rattle.listing.specs.Listing.{zeros, listened, lineOf, frameLines, lastLine, body, listed, listing}
+use Rattle.listing.specs.Text.{firstLine}
+use Rattle.listing.specs.Listing.{zeros, listened, lineOf, frameLines, lastLine, listed, listing}
 use Rattle.listing.specs.Steps.{text, said, start, told, opened, opening, counted, framed, found, step, written, held}
 use Rattle.listing.specs.Whole.{Listed}
 use Rattle.laws.proofs.Bools.{outcomes}
@@ -41,7 +40,7 @@ stays (suc n) ch x = refl
 config-stays : (ch : Channel) (x : List ℤ) → listened ch x .channel .config ≡ ch .config
 unfolding listened frames
 config-stays ch x =
-    let call = lent x (zeros (nf (ch .config))) (zeros (nb (ch .config))) in
+    let call = lent x (zeros (nf (ch .config))) in
     stays (number (ch .config) call) ch call
 
 clearing-config : (b : Bool) (c : ℕ) → T b → clearing b c .channel .config ≡ c

@@ -7,6 +7,7 @@ use lib.Ieee.{Float, binary32, ofBits}
 use Rattle.config.specs.Config.{nf, nb}
 use Rattle.analysis.specs.declared.Channel.{Channel}
 use Rattle.analysis.specs.Analysis.{Given, cleared, frames, lent}
+use Rattle.measurement.specs.Measurement as ms
 use Rattle.loudest.specs.Loudest.{heard}
 use Rattle.frame_file.specs.declared.Header.{Header}
 use Rattle.frame_file.specs.declared.Header.the-variants.{Good, Short, Unmarked, Foreign, Unknown}
@@ -20,16 +21,17 @@ use Rattle.listing.specs.Text.{firstLine, frameLine, endLine, refusedLin
 abbrev pub zeros : ℕ → List Float
 zeros n = replicate n (ofBits binary32 0)
 
--- the analysis' frame call, with room for the lines and energies of the channel's configuration
+-- the analysis' frame call, with room for the lines of the channel's configuration
 abbrev pub framed : Channel → List ℤ → Given × Channel
-framed ch x = frames ch (lent x (zeros (nf (ch .config))) (zeros (nb (ch .config))))
+framed ch x = frames ch (lent x (zeros (nf (ch .config))))
+
+-- the measurement of its lines at that configuration, with room for the energies
+abbrev pub measured : Channel → List ℤ → ms.Given
+measured ch x = ms.measures (ch .config) (ms.lent (framed ch x .0 .lines) (zeros (nb (ch .config))))
 
 -- the flag, the loudest band and the new channel; where the loudest band is refused the answer beside the refusal is quiet
-abbrev pub measured : Given × Channel → Measured
-measured g = record { flag = g .0 .flag; loudest = heard (g .0 .energies) .loudest; channel = g .1 }
-
 unfoldable pub listened : Channel → List ℤ → Measured
-listened ch x = measured (framed ch x)
+listened ch x = record { flag = measured ch x .flag; loudest = heard (measured ch x .energies) .loudest; channel = framed ch x .1 }
 
 -- the line of frame number n
 abbrev pub lineOf : ℕ → Measured → List ℕ

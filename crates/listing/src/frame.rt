@@ -1,10 +1,9 @@
 // What a frame's line tells: flag and loudest band, and the channel after it.
 ghost use mathlib.Core.Path.{_≡_};
-ghost use Prim.Native.Nat.{_≤_};
 ghost use lib.Dec.{T};
 ghost use lib.IntN.{pos};
 ghost use lib.ListN.{length, replicate};
-ghost use Rattle.config.specs.Config.{valid, nf};
+ghost use Rattle.config.specs.Config.{valid, nf, nb};
 ghost use Rattle.frame_file.specs.File.{samples, frameBytes};
 ghost use Rattle.listing.specs.Listing.{zeros, listened};
 use analysis::Channel;
@@ -37,7 +36,25 @@ fn silence() -> [i16; 480]
     [0i16; 480]
 }
 
-// The analysis of a frame, and the loudest of its bands.
+// The lines of a frame, their measurement and the loudest of their bands, in the rooms lent.
+fn listen_in(channel: Channel, input: &[i16], lines: &mut [f32], energies: &mut [f32]) -> Measured
+    requires { ⌜ (now lines ≡ zeros (nf (channel .config))) × (now energies ≡ zeros (nb (channel .config))) ⌝ }
+    ensures { λ r. ⌜ r ≡ listened channel (now (input .entry)) ⌝ }
+{
+    let config = channel.config;
+    let framed = channel.frame(input, lines);
+    let measured = measurement::measure(config, lines, energies);
+    let heard = loudest::loudest_band(energies);
+    let loudest = heard.loudest;
+    let next = framed.channel;
+    Measured {
+        flag: measured.flag,
+        loudest,
+        channel: next,
+    }
+}
+
+// The same in rooms of its own.
 fn listen(channel: Channel, input: &[i16]) -> Measured
     requires { ⌜ T (valid (channel .config)) ⌝ }
     ensures { λ r. ⌜ r ≡ listened channel (now (input .entry)) ⌝ }
@@ -47,15 +64,7 @@ fn listen(channel: Channel, input: &[i16]) -> Measured
     let b = config::nb(config);
     let mut lines = lines();
     let mut energies = energies();
-    let framed = channel.frame(input, &mut lines[..n], &mut energies[..b]);
-    let heard = loudest::loudest_band(&energies[..b]);
-    let loudest = heard.loudest;
-    let next = framed.channel;
-    Measured {
-        flag: framed.flag,
-        loudest,
-        channel: next,
-    }
+    listen_in(channel, input, &mut lines[..n], &mut energies[..b])
 }
 
 // Inner. The same of a whole record's bytes.
