@@ -33,20 +33,7 @@ use Rattle.promises.specs.NoOverflow.{Sample, Line, OnAny}
 use Rattle.promises.specs.Apart.{Given, measured, joined, inTurn, old, Pass, Never6, Apart}
 use Rattle.promises.proofs.Law.{configured}
 use Rattle.promises.proofs.AnalysisLaw.{lawful, analysis-demand3}
-use Rattle.promises.proofs.NoOverflow.{Taken, accepted, from-clear, lines-each}
-
--- ---- the lines pass 6
-line-passes : (x : Float) → Line x → T (passes6 x)
-unfolding passes6
-line-passes nan h = absurd h
-line-passes (inf s) h = absurd h
-line-passes (fin s m e) h = le→leb _ _ (le-trans (le-of-eq (sym (mul-one (m * up e)))) (le-trans h (mul-le-mul-right (down e) (lit≤ tt))))
-
-pass-each : Taken Pass
-pass-each a v s x i = each-weaken line-passes (lines-each a v s x i)
-
-all-pass : (l : List Float) → Each (λ x. T (passes6 x)) l → ltb (first passes6 l) (length l) ≡ false
-all-pass l h = le-ltb _ _ (le-of-eq (first-none passes6 l nan (λ k b. is-true _ (each-at nan k h b))))
+use Rattle.promises.proofs.NoOverflow.{accepted, from-clear, pass-each, all-pass}
 
 -- ---- a measurement by its number
 tells : (c : ℕ) (x : measurement.Lent) → measures c x .number ≡ measurement.number c x
@@ -62,8 +49,11 @@ unfolding measures
 by-number c x n e = ap (λ (m : ℕ). measurement.measured m c x) e
 
 -- lines that pass are not refused by 6
+passing : (l : List Float) → Each (λ x. T (passes6 x)) l → ltb (first passes6 l) (length l) ≡ false
+passing l h = le-ltb _ _ (le-of-eq (all-pass l h))
+
 never-6 : (c : ℕ) (l e : List Float) → Pass c l → measures c (measurement.lent l e) .number ≡ 6 → ⊥
-never-6 c l e h n = go (not (valid c)) (not (eqb (length l) (nf c))) (not (eqb (length e) (nb c))) (rw (all-pass l h) at (sym (tells c (measurement.lent l e)) ∙ n))
+never-6 c l e h n = go (not (valid c)) (not (eqb (length l) (nf c))) (not (eqb (length e) (nb c))) (rw (passing l h) at (sym (tells c (measurement.lent l e)) ∙ n))
   where
     go : (p q r : Bool) → _≡_ {A = ℕ} (cond p 1 (cond q 3 (cond r 5 0))) 6 → ⊥
     go true q r e = omega arith
@@ -177,7 +167,7 @@ module _ (a : Channel) (x : combined.Lent) where
       go zero e =
           tells c next
           ∙ second-number e
-          ∙ ap (λ (b : Bool). cond (not (eqb (length (x .energies)) (nb c))) 5 (cond b 6 0)) (all-pass lines (pass-each a (passed c own e .0) s (x .input) i))
+          ∙ ap (λ (b : Bool). cond (not (eqb (length (x .energies)) (nb c))) 5 (cond b 6 0)) (passing lines (pass-each a (passed c own e .0) s (x .input) i))
       go (suc n) e = refl
 
   -- what an accepted pair gives, by its lines

@@ -8,8 +8,9 @@ use Rattle.kissfft.specs.Fft as kissfft
 use Rattle.dct_iv.specs.DctIv as dct
 use Rattle.analysis.specs.declared.Channel as analysisChannel
 use Rattle.analysis.specs.declared.Framed as analysisFramed
-use Rattle.analysis.specs.declared.Told as analysisTold
 use Rattle.analysis.specs.Analysis as analysis
+use Rattle.measurement.specs.declared.Measured as measurementMeasured
+use Rattle.measurement.specs.Measurement as measurement
 use Rattle.synthesis.specs.declared.Channel as synthesisChannel
 use Rattle.synthesis.specs.declared.Framed as synthesisFramed
 use Rattle.synthesis.specs.Synthesis as synthesis
@@ -48,15 +49,15 @@ module _ (w : World) where
 
 -- the return in a call's outcome
 abbrev analysis-framed : analysis.Given × analysisChannel.Channel → analysisFramed.Framed
-analysis-framed o = record { number = o .0 .number; flag = o .0 .flag; channel = o .1 }
+analysis-framed o = record { number = o .0 .number; channel = o .1 }
 
 abbrev synthesis-framed : synthesis.Given × synthesisChannel.Channel → synthesisFramed.Framed
 synthesis-framed o = record { number = o .0 .number; index = o .0 .index; channel = o .1 }
 
--- the same where the channel is lent: its samples or its memory stand among what is lent for writing
-abbrev analysis-told : analysis.Given × analysisChannel.Channel → analysisTold.Told
-analysis-told o = record { number = o .0 .number; flag = o .0 .flag }
+abbrev measured : measurement.Given → measurementMeasured.Measured
+measured o = record { number = o .number; index = o .index; flag = o .flag }
 
+-- the same where the channel is lent: its samples or its memory stand among what is lent for writing
 abbrev synthesis-told : synthesis.Given × synthesisChannel.Channel → Verdict
 synthesis-told o = record { number = o .0 .number; index = o .0 .index }
 
@@ -151,8 +152,9 @@ entries w =
       scale = (λ κs a. free w, λ κs a g x y. once w (λ l. (tt, (l, (tt, tt)))));
       zeros = (λ κs a. free w, λ κs a g x y. once w (λ l. (tt, (l, tt))));
       analysis-clear = (λ κs a. free w, λ κs a g x y. returns w x y refl);
-      analysis-frame = (λ κs a. free w, λ κs a g x y. once′ w (λ (o : analysis.Given × analysisChannel.Channel). (analysis-framed o, (tt, (tt, (o .0 .lines, (o .0 .energies, tt)))))));
-      analysis-frame-at = (λ κs a. free w, λ κs a g x y. once′ w (λ (o : analysis.Given × analysisChannel.Channel). (analysis-told o, (tt, (o .1 .samples, (tt, (o .0 .lines, (o .0 .energies, tt))))))));
+      analysis-frame = (λ κs a. free w, λ κs a g x y. once′ w (λ (o : analysis.Given × analysisChannel.Channel). (analysis-framed o, (tt, (tt, (o .0 .lines, tt))))));
+      analysis-frame-at = (λ κs a. free w, λ κs a g x y. once′ w (λ (o : analysis.Given × analysisChannel.Channel). (o .0 .number, (tt, (o .1 .samples, (tt, (o .0 .lines, tt)))))));
+      measure = (λ κs a. free w, λ κs a g x y. once w (λ (o : measurement.Given). (measured o, (tt, (tt, (o .energies, tt))))));
       synthesis-clear = (λ κs a. free w, λ κs a g x y. returns w x y refl);
       synthesis-frame = (λ κs a. free w, λ κs a g x y. once′ w (λ (o : synthesis.Given × synthesisChannel.Channel). (synthesis-framed o, (tt, (tt, (o .0 .samples, tt))))));
       synthesis-frame-at = (λ κs a. free w, λ κs a g x y. once′ w (λ (o : synthesis.Given × synthesisChannel.Channel). (synthesis-told o, (tt, (o .1 .memory, (tt, (o .0 .samples, tt)))))));
@@ -186,8 +188,9 @@ entries w =
       c-fft = (λ κs a. free w, λ κs a g x y. once w (λ (o : kissfft.Answer). (o .judged, (tt, (tt, (tt, (tt, (o .re, (o .im, tt)))))))));
       c-dct-iv = (λ κs a. free w, λ κs a g x y. once w (λ (o : dct.Answer). (o .judged, (tt, (o .held, tt)))));
       c-analysis-clear = (λ κs a. free w, λ κs a g x y. returns w x y refl);
-      c-analysis-frame = (λ κs a. free w, λ κs a g x y. once′ w (λ (o : analysis.Given × analysisChannel.Channel). (analysis-framed o, (tt, (tt, (o .0 .lines, (o .0 .energies, tt)))))));
-      c-analysis-frame-at = (λ κs a. free w, λ κs a g x y. once′ w (λ (o : analysis.Given × analysisChannel.Channel). (analysis-told o, (tt, (o .1 .samples, (tt, (o .0 .lines, (o .0 .energies, tt))))))));
+      c-analysis-frame = (λ κs a. free w, λ κs a g x y. once′ w (λ (o : analysis.Given × analysisChannel.Channel). (analysis-framed o, (tt, (tt, (o .0 .lines, tt))))));
+      c-analysis-frame-at = (λ κs a. free w, λ κs a g x y. once′ w (λ (o : analysis.Given × analysisChannel.Channel). (o .0 .number, (tt, (o .1 .samples, (tt, (o .0 .lines, tt)))))));
+      c-measure = (λ κs a. free w, λ κs a g x y. once w (λ (o : measurement.Given). (measured o, (tt, (tt, (o .energies, tt))))));
       c-synthesis-clear = (λ κs a. free w, λ κs a g x y. returns w x y refl);
       c-synthesis-frame = (λ κs a. free w, λ κs a g x y. once′ w (λ (o : synthesis.Given × synthesisChannel.Channel). (synthesis-framed o, (tt, (tt, (o .0 .samples, tt))))));
       c-synthesis-frame-at = (λ κs a. free w, λ κs a g x y. once′ w (λ (o : synthesis.Given × synthesisChannel.Channel). (synthesis-told o, (tt, (o .1 .memory, (tt, (o .0 .samples, tt)))))));
@@ -202,6 +205,7 @@ cited w =
       analysis-clear = λ κs a g x. refl;
       analysis-frame = λ κs a g x. refl;
       analysis-frame-at = λ κs a g x. refl;
+      measure = λ κs a g x. refl;
       synthesis-clear = λ κs a g x. refl;
       synthesis-frame = λ κs a g x. refl;
       synthesis-frame-at = λ κs a g x. refl;

@@ -1,15 +1,15 @@
 -- Document 02 §13: a channel's samples stay 16-bit and its memory at most 2^74, whatever is called; and of such an array the laws of bounds hold. Assumes nothing.
 use Prim.Native.Nat.{ℕ, zero, suc, _-_, _*_, _≤_, _<_}
-use native.Mathlib.Nat.{le-antisymm}
+use native.Mathlib.Nat.{le-antisymm, le-trans, le-of-eq, mul-one, mul-le-mul-right}
 use native.Mathlib.Omega.{arith}
-use mathlib.Core.Path.{_≡_, refl, sym, ap, subst}
+use mathlib.Core.Path.{_≡_, refl, sym, ap, subst, _∙_}
 use mathlib.Core.Bool.{Bool, true, false, not, cond}
 use mathlib.Core.Option.{some}
 use mathlib.Core.List.{List, [], _∷_}
 use lib.IntN.{ℤ, pos, negsuc}
-use lib.Dec.{T, eqb, ltb, ltb→lt, nltb→le, lit<, lit≤}
+use lib.Dec.{T, eqb, ltb, ltb→lt, nltb→le, le→leb, lit<, lit≤}
 use lib.ListN.{length, getD, take, drop, replicate, length-replicate}
-use lib.Ieee.{Float, nan}
+use lib.Ieee.{Float, nan, inf, fin, up, down}
 use lib.Ieee.Bits.{is-true}
 use borrow.Author.Tests.{eq-eqb}
 use Rattle.laws.specs.Lists.{first}
@@ -17,13 +17,16 @@ use Rattle.laws.specs.Numbers.{zero32}
 use Rattle.laws.specs.Passes.{passes6, passes7}
 use Rattle.laws.proofs.Lists.{length-tab, first-none}
 use Rattle.config.specs.Config.{valid, nf, z, ne, nb, among, bandCounts}
+use Rattle.config.specs.declared.Verdict.{Verdict}
 use Rattle.config.proofs.Sound.{sound}
 use Rattle.analysis_steps.specs.Buffer.{pastOf, bufferStep, bufferOf}
 use Rattle.measurement_steps.specs.Energy.{energies}
 use Rattle.analysis_lines.specs.Lines.{timeBuffer, linesOf}
 use Rattle.analysis.specs.declared.Channel.{Channel}
 use Rattle.analysis.specs.Analysis.{Lent, Given, keptOf, held, clearing, cleared, number, framed, frames, lent}
-use Rattle.measurement.specs.Measurement.{energiesOf}
+use Rattle.measurement.specs.Measurement as measurement
+use Rattle.measurement.specs.Measurement.{energiesOf, measures}
+use Rattle.measurement.proofs.Verdicts as verdicts
 use Rattle.analysis.proofs.Frames.{says-0, passed}
 use Rattle.synthesis.specs.declared.Channel as synthesisChannel
 use Rattle.synthesis.specs.Synthesis as synthesisCalls
@@ -45,7 +48,8 @@ use Rattle.bounds.proofs.Samples.{six-within, size-finite, memory-bound, sample
 use Rattle.promises.specs.Sequence.{Call, clears, after}
 use Rattle.promises.specs.AnalysisChannel.{analysis}
 use Rattle.promises.specs.SynthesisChannel.{synthesis}
-use Rattle.promises.specs.NoOverflow.{Sample, Sampled, Finite, Lines, Energies, Hears, numbers, FromClear, OnAny, NoOverflow}
+use Rattle.promises.specs.NoOverflow.{Sample, Sampled, Line, Finite, Lines, Energies, Hears, numbers, FromClear, OnAny, NoOverflow}
+use Rattle.promises.specs.Apart.{Pass}
 use Rattle.promises.proofs.Kept.{kept}
 
 -- ---- analysis: the samples are 16-bit
@@ -93,6 +97,19 @@ pub lines-each : Taken Lines
 unfolding linesOf
 lines-each a v s x i = lines-bound (a .config) v _ (buffer-each (a .config) (past-each a s) i)
 
+-- and so they pass 6
+line-passes : (x : Float) → Line x → T (passes6 x)
+unfolding passes6
+line-passes nan h = absurd h
+line-passes (inf s) h = absurd h
+line-passes (fin s m e) h = le→leb _ _ (le-trans (le-of-eq (sym (mul-one (m * up e)))) (le-trans h (mul-le-mul-right (down e) (lit≤ tt))))
+
+pub pass-each : Taken Pass
+pass-each a v s x i = each-weaken line-passes (lines-each a v s x i)
+
+pub all-pass : (l : List Float) → Each (λ x. T (passes6 x)) l → length l ≡ first passes6 l
+all-pass l h = first-none passes6 l nan (λ k b. is-true _ (each-at nan k h b))
+
 energies-each : Taken Energies
 unfolding linesOf
 energies-each a v s x i = energies-bound 30 (lit≤ tt) (a .config) v _ (length-mdct (a .config) v (timeBuffer (a .config) (held a) x)) (lines-each a v s x i)
@@ -138,15 +155,26 @@ whole-frames (suc most) c f = go (recordOf c f) (whole-frames most c)
     go Cut rest = within.none
     go Astray rest = within.none
 
--- what the listing's call is lent for a frame
+-- what the listing's calls are lent for a frame
 abbrev lends : Channel → List ℤ → Lent
-lends a x = lent x (zeros32 (nf (a .config))) (zeros32 (nb (a .config)))
+lends a x = lent x (zeros32 (nf (a .config)))
+
+abbrev next : Channel → List ℤ → measurement.Lent
+next a x = measurement.lent (linesOf (a .config) (held a) x) (zeros32 (nb (a .config)))
 
 takes : (a : Channel) → T (valid (a .config)) → (x : List ℤ) → length x ≡ nf (a .config) → frames a (lends a x) ≡ framed 0 a (lends a x)
 unfolding frames
 takes a v x e =
     let c = a .config in
-    ap (λ (n : ℕ). framed n a (lends a x)) (sym (says-0 c (lends a x) refl (ap not (is-true (valid c) v)) e (length-replicate (nf c) zero32) (length-replicate (nb c) zero32)))
+    ap (λ (n : ℕ). framed n a (lends a x)) (sym (says-0 c (lends a x) refl (ap not (is-true (valid c) v)) e (length-replicate (nf c) zero32)))
+
+measure-takes : (a : Channel) → T (valid (a .config)) → Held a → (x : List ℤ) → Each Sample x → measures (a .config) (next a x) ≡ measurement.measured 0 (a .config) (next a x)
+unfolding measures linesOf
+measure-takes a v s x i =
+    let c = a .config in
+    let l = length-mdct c v (timeBuffer c (held a) x) in
+    let p = verdicts.says-0 c (next a x) refl (ap not (is-true (valid c) v)) l (length-replicate (nb c) zero32) refl (le-of-eq (all-pass _ (pass-each a v s x i))) in
+    ap (λ (w : Verdict). measurement.measured (w .number) c (next a x)) (sym p)
 
 -- all along frames, from a channel on
 along : (xs : List (List ℤ)) (a : Channel) → T (valid (a .config)) → Held a → Each (Whole (a .config)) xs → Each (λ n. n ≡ 0) (numbers a xs)
@@ -154,9 +182,15 @@ along [] a v s within.none = within.none
 along (x ∷ xs) a v s (within.also w ws) =
     let l = lends a x in
     let t = takes a v x (w .0) in
-    let n = ap (λ (r : Given × Channel). r .0 .number) t in
-    let next = along xs (framed 0 a l .1) v (subst (λ (r : Given × Channel). Held (r .1)) t (frame-held a l (w .1) s)) ws in
-    within.also n (within.also (accepted Hears hears-each a s l (w .1) n) (subst (λ (r : Given × Channel). Each (λ n. n ≡ 0) (numbers (r .1) xs)) (sym t) next))
+    let m = ap (λ (r : Given × Channel). measures (a .config) (measurement.lent (r .0 .lines) (zeros32 (nb (a .config))))) t ∙ measure-takes a v s x (w .1) in
+    let rest = along xs (framed 0 a l .1) v (subst (λ (r : Given × Channel). Held (r .1)) t (frame-held a l (w .1) s)) ws in
+    within.also
+    (ap (λ (r : Given × Channel). r .0 .number) t)
+    (within.also
+    (ap (λ (g : measurement.Given). g .number) m)
+    (within.also
+    (subst (λ (g : measurement.Given). paper (heard (g .energies)) .number ≡ 0) (sym m) (hears-each a v s x (w .1)))
+    (subst (λ (r : Given × Channel). Each (λ n. n ≡ 0) (numbers (r .1) xs)) (sym t) rest)))
 
 along-file : (c : ℕ) → T (valid c) → (f : List ℕ) → Each (λ n. n ≡ 0) (numbers (cleared c .channel) (contents c f .frames))
 unfolding cleared contents

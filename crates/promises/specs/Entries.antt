@@ -104,6 +104,7 @@ use Rattle.synthesis_steps.proofs.zeros
 use Rattle.analysis.proofs.clear as analysis-clear
 use Rattle.analysis.proofs.Channel.frame as analysis-frame
 use Rattle.analysis.proofs.frame_at as analysis-frame-at
+use Rattle.measurement.proofs.measure
 use Rattle.synthesis.proofs.clear as synthesis-clear
 use Rattle.synthesis.proofs.Channel.frame as synthesis-frame
 use Rattle.synthesis.proofs.frame_at as synthesis-frame-at
@@ -139,6 +140,7 @@ use Rattle.c_api.proofs.loamscarf_dct_iv
 use Rattle.c_api.proofs.loamscarf_analysis_clear
 use Rattle.c_api.proofs.loamscarf_analysis_frame
 use Rattle.c_api.proofs.loamscarf_analysis_frame_at
+use Rattle.c_api.proofs.loamscarf_measure
 use Rattle.c_api.proofs.loamscarf_synthesis_clear
 use Rattle.c_api.proofs.loamscarf_synthesis_frame
 use Rattle.c_api.proofs.loamscarf_synthesis_frame_at
@@ -146,6 +148,7 @@ use Rattle.c_api.proofs.loamscarf_loudest_band
 use Rattle.kissfft.specs.Fft as kissfft
 use Rattle.dct_iv.specs.DctIv as dct
 use Rattle.analysis.specs.Analysis as analysis
+use Rattle.measurement.specs.Measurement as measurement
 use Rattle.synthesis.specs.Synthesis as synthesis
 use Rattle.loudest.specs.Loudest.{heard}
 use Rattle.listing.specs.Steps as steps
@@ -285,6 +288,8 @@ pub record Entries (w : World) : Type 1 where
   pub analysis-clear : Entry w analysis-clear.ended analysis-clear.clauses
   pub analysis-frame : Entry w analysis-frame.ended analysis-frame.clauses
   pub analysis-frame-at : Entry w analysis-frame-at.ended analysis-frame-at.clauses
+  -- measurement
+  pub measure : Entry w measure.ended measure.clauses
   -- synthesis
   pub synthesis-clear : Entry w synthesis-clear.ended synthesis-clear.clauses
   pub synthesis-frame : Entry w synthesis-frame.ended synthesis-frame.clauses
@@ -329,6 +334,7 @@ pub record Entries (w : World) : Type 1 where
   pub c-analysis-clear : Entry w loamscarf_analysis_clear.ended loamscarf_analysis_clear.clauses
   pub c-analysis-frame : Entry w loamscarf_analysis_frame.ended loamscarf_analysis_frame.clauses
   pub c-analysis-frame-at : Entry w loamscarf_analysis_frame_at.ended loamscarf_analysis_frame_at.clauses
+  pub c-measure : Entry w loamscarf_measure.ended loamscarf_measure.clauses
   pub c-synthesis-clear : Entry w loamscarf_synthesis_clear.ended loamscarf_synthesis_clear.clauses
   pub c-synthesis-frame : Entry w loamscarf_synthesis_frame.ended loamscarf_synthesis_frame.clauses
   pub c-synthesis-frame-at : Entry w loamscarf_synthesis_frame_at.ended loamscarf_synthesis_frame_at.clauses
@@ -345,10 +351,13 @@ pub record Cited (w : World) : Type 2 where
   -- analysis: `clear` gives `cleared`, `frame` gives `frames`, and so does `frame_at`, on the channel that is lent
   pub analysis-clear : Says w analysis-clear.ended analysis-clear.clauses (λ κs a x. x .0 ≡ analysis.cleared (a .0))
   pub analysis-frame : Says w analysis-frame.ended analysis-frame.clauses
-      (λ κs a x. analysis.frames (a .0) (analysis.lent (now (a .1 .0)) (now (a .1 .1 .0)) (now (a .1 .1 .1 .0))) ≡ analysis.outcome (x .0) (x .1 .1 .1 .0) (x .1 .1 .1 .1 .0))
+      (λ κs a x. analysis.frames (a .0) (analysis.lent (now (a .1 .0)) (now (a .1 .1 .0))) ≡ analysis.outcome (x .0) (x .1 .1 .1 .0))
   pub analysis-frame-at : Says w analysis-frame-at.ended analysis-frame-at.clauses
-      (λ κs a x. analysis.frames (analysis.channelOf (a .0) (now (a .1 .0))) (analysis.lent (now (a .1 .1 .0)) (now (a .1 .1 .1 .0)) (now (a .1 .1 .1 .1 .0)))
-      ≡ analysis.outcomeAt (a .0) (x .0) (x .1 .1 .0) (x .1 .1 .1 .1 .0) (x .1 .1 .1 .1 .1 .0))
+      (λ κs a x. analysis.frames (analysis.channelOf (a .0) (now (a .1 .0))) (analysis.lent (now (a .1 .1 .0)) (now (a .1 .1 .1 .0)))
+      ≡ analysis.outcomeAt (a .0) (x .0) (x .1 .1 .0) (x .1 .1 .1 .1 .0))
+  -- measurement: `measure` gives `measures`
+  pub measure : Says w measure.ended measure.clauses
+      (λ κs a x. measurement.outcome (x .0) (x .1 .1 .1 .0) ≡ measurement.measures (a .0) (measurement.lent (now (a .1 .0)) (now (a .1 .1 .0))))
   -- synthesis, alike
   pub synthesis-clear : Says w synthesis-clear.ended synthesis-clear.clauses (λ κs a x. x .0 ≡ synthesis.cleared (a .0))
   pub synthesis-frame : Says w synthesis-frame.ended synthesis-frame.clauses

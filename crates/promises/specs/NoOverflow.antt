@@ -25,7 +25,7 @@ use Rattle.synthesis.specs.declared.Channel as synthesisChannel
 use Rattle.synthesis.specs.Synthesis as synthesisCalls
 use Rattle.loudest.specs.Loudest.{heard, paper}
 use Rattle.frame_file.specs.File.{contents}
-use Rattle.listing.specs.Listing.{framed}
+use Rattle.listing.specs.Listing.{framed, measured}
 use Rattle.bounds.specs.Within.{Within, Each}
 use Rattle.promises.specs.Sequence.{Call, clear, frame, clears, after}
 use Rattle.promises.specs.AnalysisChannel.{analysis}
@@ -62,10 +62,10 @@ Energies c l = Each Energy (energiesOf c l)
 abbrev pub Hears : ℕ → List Float → Type 0
 Hears c l = paper (heard (energiesOf c l)) .number ≡ refusals.accepted
 
--- the numbers that the listing is told along frames, as `frameLines` goes through them: each frame's, and the loudest band's on its energies
+-- the numbers that the listing is told along frames, as `frameLines` goes through them: each frame's, its measurement's, and the loudest band's on its energies
 abbrev pub numbers : Channel → List (List ℤ) → List ℕ
 numbers a [] = []
-numbers a (x ∷ xs) = framed a x .0 .number ∷ paper (heard (framed a x .0 .energies)) .number ∷ numbers (framed a x .1) xs
+numbers a (x ∷ xs) = framed a x .0 .number ∷ measured a x .number ∷ paper (heard (measured a x .energies)) .number ∷ numbers (framed a x .1) xs
 
 -- P holds of the configuration and the lines of an accepted frame, "for any samples and any history from a clear": after any calls at all, as `by-definition` of
 -- demand 3 has them
@@ -86,7 +86,7 @@ pub record NoOverflow : Type 0 where
   pub energies-anywhere : OnAny Energies
   -- So the loudest band never refuses the energies of an accepted frame.
   pub heard-anywhere : OnAny Hears
-  -- So in the listing of a file of any bytes neither a frame nor its energies are refused.
+  -- So in the listing of a file of any bytes neither a frame nor its lines nor its energies are refused.
   pub listed : (c : ℕ) → T (valid c) → (bytes : List ℕ) → Each (λ n. n ≡ refusals.accepted) (numbers (cleared c .channel) (contents c bytes .frames))
   -- The energies of any nf lines that pass 6 pass 7, since a line's square is at most 2^120; and the loudest band takes them.
   pub measured : (c : ℕ) → T (valid c) → (l : List Float) → length l ≡ nf c → Each (λ x. T (passes6 x)) l → Each (λ x. T (passes7 x)) (energiesOf c l)
