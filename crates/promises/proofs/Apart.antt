@@ -8,20 +8,23 @@ use mathlib.Core.List.{List, _∷_}
 use lib.IntN.{ℤ}
 use lib.Dec.{T, eqb, ltb, le→leb, lit≤}
 use lib.ListN.{length, getD}
-use lib.Ieee.{Float, nan, inf, fin, up, down}
+use lib.Ieee.{Float, nan, ofBits, ofFields, odd, units, round, sum, add, mul, div, ofInt, lt}
+use lib.Count.{trailingZeros}
 use lib.Ieee.Bits.{is-true}
 use borrow.Author.Tests.{eq-eqb, eqb-true, le-ltb}
-use Rattle.laws.specs.Lists.{first}
+use Rattle.laws.specs.Lists.{tab, first}
 use Rattle.laws.specs.Passes.{passes6}
 use Rattle.laws.proofs.Lists.{first-none}
-use Rattle.config.specs.Config.{valid, nf, nb}
+use Rattle.config.specs.Tables.{rows, edgeRows}
+use Rattle.config.specs.Config.{valid, row, nf, nb, half, edges}
 use Rattle.analysis_lines.specs.Lines.{timeBuffer, linesOf}
 use Rattle.analysis.specs.declared.Channel.{Channel}
 use Rattle.analysis.specs.Analysis as frame
 use Rattle.analysis.specs.Analysis.{Lent, held, number, framed, frames, lent}
 use Rattle.analysis.proofs.Frames.{passed}
 use Rattle.measurement.specs.Measurement as measurement
-use Rattle.measurement.specs.Measurement.{measures}
+use Rattle.measurement_steps.specs.Energy.{share, energy, bandOf, energies, total, exceeds}
+use Rattle.measurement.specs.Measurement.{energiesOf, flagOf, measures}
 use Rattle.measurement.proofs.Verdicts as verdicts
 use Rattle.bounds.specs.Within.{Within, Each}
 use Rattle.bounds.proofs.Lists.{each-at, each-weaken}
@@ -184,6 +187,7 @@ is-0 n e = subst (λ (m : ℕ). T (eqb m 0)) (sym e) tt
 
 -- THE STATEMENT
 pub apart : Apart
+unfolding measures row rows half edges edgeRows first passes6 tab energiesOf energies bandOf energy share flagOf exceeds total ofBits ofFields odd trailingZeros units round sum add mul div ofInt lt
 apart =
     record {
       in-turn = in-turn;
@@ -206,4 +210,8 @@ apart =
           let tx = taken (after analysis a (call f ∷ qs)) x m in
           let ty = taken (after analysis b (call g ∷ rs)) y n in
           tx .1 ∙ ap₂ paired (h .configs) (ap (λ (g : frame.Given). g .lines) (h .answers _ _ i (is-0 _ (tx .0)) (is-0 _ (ty .0)))) ∙ sym (ty .1);
+      at-the-bound = refl;
+      above-it = refl;
+      tested-last = refl;
+      own-flag = refl;
     }
