@@ -1,7 +1,8 @@
 //! The Rust's side of the bench: reads a log of calls on standard input, runs lc3-codec on each, and prints what it answers.
 //! Refusals, the loudest band and channels that came from no clear are decided here, from the paper's text.
 //! `crate::common`, `encoder`, `decoder` and `tables` are lc3-codec's own files, unchanged; the crate `short_frames` is their copy, which runs the
-//! configurations that lc3-codec does not have, and nothing else.
+//! configurations that lc3-codec does not have, and nothing else. A frame, measured or not, is lc3-codec's `run`, which does both at once; a measurement
+//! alone is the two functions that `run` measures with.
 
 mod log;
 
@@ -30,6 +31,7 @@ mod short {
 /// What lc3-codec's code does with a configuration. A channel's memory is in the buffer that it is lent.
 trait Transforms {
     fn analyse(&self, time: &mut [i16], input: &[i16], lines: &mut [f32], energies: &mut [f32]) -> bool;
+    fn measure(&self, lines: &[f32], energies: &mut [f32]) -> bool;
     fn buffer_length(&self) -> usize;
     fn synthesise(&self, buffer: &mut [f32], lines: &[f32], samples: &mut [f32]);
 }
@@ -85,24 +87,48 @@ impl Analysis {
         Analysis { config: number, samples, time }
     }
 
-    fn frame(&mut self, input: &[i16], lines: &mut [f32], energies: &mut [f32]) -> (Verdict, bool) {
-        let Some(c) = config(self.config) else {
-            return ((1, 0), false);
-        };
+    /// A frame to lines; and what lc3-codec measures of them.
+    fn frame(&mut self, input: &[i16], lines: &mut [f32]) -> Result<(Vec<f32>, bool), Verdict> {
+        let c = config(self.config).ok_or((1, 0))?;
         if input.len() != c.nf {
-            return ((3, 0), false);
+            return Err((3, 0));
         }
         if lines.len() != c.nf {
-            return ((4, 0), false);
+            return Err((4, 0));
         }
-        if energies.len() != c.nb {
-            return ((5, 0), false);
-        }
-        let flag = c.transforms.analyse(&mut self.time, input, lines, energies);
+        let mut energies = vec![0.0; c.nb];
+        let flag = c.transforms.analyse(&mut self.time, input, lines, &mut energies);
         self.samples = [0; ROOM];
         self.samples[..c.nf - c.z].copy_from_slice(&self.time[c.nf..2 * c.nf - c.z]);
-        (ACCEPTED, flag)
+        Ok((energies, flag))
     }
+
+    /// A frame to lines, and where that is accepted the measurement of them.
+    fn pair(&mut self, input: &[i16], lines: &mut [f32], energies: &mut [f32]) -> Result<bool, Verdict> {
+        let (own, flag) = self.frame(input, lines)?;
+        measurable(self.config, lines, energies)?;
+        energies.copy_from_slice(&own);
+        Ok(flag)
+    }
+}
+
+/// The configuration of a measurement that is not refused.
+fn measurable(number: u8, lines: &[f32], energies: &[f32]) -> Result<Config, Verdict> {
+    let c = config(number).ok_or((1, 0))?;
+    if lines.len() != c.nf {
+        return Err((3, 0));
+    }
+    if energies.len() != c.nb {
+        return Err((5, 0));
+    }
+    match first_failing(lines, passes_6) {
+        Some(place) => Err((6, place)),
+        None => Ok(c),
+    }
+}
+
+fn measure(number: u8, lines: &[f32], energies: &mut [f32]) -> Result<bool, Verdict> {
+    Ok(measurable(number, lines, energies)?.transforms.measure(lines, energies))
 }
 
 /// The synthesis channel: lc3-codec's own buffer, whose first places are the memory, and the array as the port shows it.
@@ -235,6 +261,11 @@ impl<W: Write> Bench<W> {
         writeln!(self.out, "{count} {kind} {} {} {extra}", verdict.0, verdict.1)
     }
 
+    /// The first line of a call that has a flag, which is not set beside a refusal.
+    fn flagged(&mut self, count: u64, kind: u8, told: Result<bool, Verdict>) -> io::Result<()> {
+        self.head(count, kind, told.err().unwrap_or(ACCEPTED), if told == Ok(true) { "1" } else { "0" })
+    }
+
     fn answer(&mut self, count: u64, kind: u8, call: Call) -> io::Result<()> {
         match call {
             Call::ClearAnalysis(number) => {
@@ -253,9 +284,21 @@ impl<W: Write> Bench<W> {
             }
             Call::Analyse { input, lines, energies } => {
                 let (mut lines, mut energies) = (area(lines), area(energies));
-                let (verdict, flag) = self.analysis.frame(&input, &mut lines, &mut energies);
-                self.head(count, kind, verdict, if flag { "1" } else { "0" })?;
+                let told = self.analysis.pair(&input, &mut lines, &mut energies);
+                self.flagged(count, kind, told)?;
                 show_floats(&mut self.out, "lines", &lines)?;
+                show_floats(&mut self.out, "energies", &energies)
+            }
+            Call::Transform { input, lines } => {
+                let mut lines = area(lines);
+                let told = self.analysis.frame(&input, &mut lines);
+                self.head(count, kind, told.err().unwrap_or(ACCEPTED), "-")?;
+                show_floats(&mut self.out, "lines", &lines)
+            }
+            Call::Measure { config, lines, energies } => {
+                let mut energies = area(energies);
+                let told = measure(config, &lines, &mut energies);
+                self.flagged(count, kind, told)?;
                 show_floats(&mut self.out, "energies", &energies)
             }
             Call::Synthesise { lines, samples } => {

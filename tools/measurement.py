@@ -1,0 +1,76 @@
+"""The measurement call of document 02 §5, from the papers' text alone: its refusals in their order, and every operation rounded once to f32.
+
+f64 holds a product of two f32, and of their quotient and sum enough that rounding twice is rounding once."""
+import math
+import struct
+
+import answers
+import lmc
+
+LIMIT = 0x5D800000  # 2^60
+
+
+def value(pattern):
+    """The f32 of a bit pattern."""
+    return struct.unpack('<f', struct.pack('<I', pattern))[0]
+
+
+def rounded(x):
+    """The f32 next to a number."""
+    try:
+        return struct.unpack('<f', struct.pack('<f', x))[0]
+    except OverflowError:
+        return math.copysign(math.inf, x)
+
+
+def total(values):
+    """Their sum, added one after the other."""
+    sum_so_far = 0.0
+    for x in values:
+        sum_so_far = rounded(sum_so_far + x)
+    return sum_so_far
+
+
+def energies(config, lines):
+    """Of each band the squares of its lines, each divided by the band's width, added in line order."""
+    edges = lmc.EDGES[config]
+    return [total(rounded(rounded(x * x) / (high - low)) for x in lines[low:high]) for low, high in zip(edges, edges[1:])]
+
+
+def near_nyquist(config, found):
+    """Whether the energies of the upper bands are above 30.0 times those of the lower ones; never at 48 kHz."""
+    first = lmc.NB[config] - lmc.UPPER[config]
+    return lmc.RATE[config] <= 32000 and total(found[first:]) > rounded(30.0 * total(found[:first]))
+
+
+def refusal(config, patterns, room):
+    """The number and the index of lines by their bits, and energies of so many places."""
+    if config >= len(lmc.NF):
+        return 1, 0
+    if len(patterns) != lmc.NF[config]:
+        return 3, 0
+    if room != lmc.NB[config]:
+        return 5, 0
+    failing = [place for place, pattern in enumerate(patterns) if pattern & 0x7FFFFFFF > LIMIT]
+    return (6, failing[0]) if failing else (0, 0)
+
+
+def answer(config, patterns, room):
+    """What the call answers."""
+    number, index = refusal(config, patterns, room)
+    places, flag = [k + 0.5 for k in range(room)], False
+    if number == 0:
+        places = energies(config, [value(pattern) for pattern in patterns])
+        flag = near_nyquist(config, places)
+    return answers.Answer(12, number, index, str(int(flag)), [('energies', [f'{lmc.bits(x):08x}' for x in places])])
+
+
+def asked(call):
+    """What a call's bytes hand in: the configuration, the lines, and how many places the energies have."""
+    config, count = struct.unpack_from('<BH', call, 1)
+    return config, struct.unpack_from(f'<{count}I', call, 4), struct.unpack_from('<H', call, 4 + 4 * count)[0]
+
+
+def of_call(call):
+    """What a call of kind 12 answers."""
+    return answer(*asked(call))
