@@ -1,4 +1,5 @@
-"""The measurement call of document 02 §5, from the papers' text alone: its refusals in their order, and every operation rounded once to f32.
+"""The measurement call of document 02 §5, from the papers' text alone: its refusals in their order, and every operation rounded once to f32. And what a frame to
+lines answers, measured or not, but for the lines themselves.
 
 f64 holds a product of two f32, and of their quotient and sum enough that rounding twice is rounding once."""
 import math
@@ -55,14 +56,18 @@ def refusal(config, patterns, room):
     return (6, failing[0]) if failing else (0, 0)
 
 
+def untouched(room):
+    """An area of so many places as it is before a call."""
+    return [f'{lmc.bits(k + 0.5):08x}' for k in range(room)]
+
+
 def answer(config, patterns, room):
-    """What the call answers."""
+    """What the measurement answers."""
     number, index = refusal(config, patterns, room)
-    places, flag = [k + 0.5 for k in range(room)], False
-    if number == 0:
-        places = energies(config, [value(pattern) for pattern in patterns])
-        flag = near_nyquist(config, places)
-    return answers.Answer(12, number, index, str(int(flag)), [('energies', [f'{lmc.bits(x):08x}' for x in places])])
+    if number:
+        return answers.Answer(12, number, index, '0', [('energies', untouched(room))])
+    found = energies(config, [value(pattern) for pattern in patterns])
+    return answers.Answer(12, 0, 0, str(int(near_nyquist(config, found))), [('energies', [f'{lmc.bits(x):08x}' for x in found])])
 
 
 def asked(call):
@@ -74,3 +79,24 @@ def asked(call):
 def of_call(call):
     """What a call of kind 12 answers."""
     return answer(*asked(call))
+
+
+def frame_refusal(config, count, room):
+    """The number of a frame of so many samples, and lines of so many places."""
+    if config >= len(lmc.NF):
+        return 1
+    return 3 if count != lmc.NF[config] else 4 if room != lmc.NF[config] else 0
+
+
+def of_frame(config, call, lines):
+    """What a call of kind 2 or 11 answers on a channel of a configuration; where its frame is taken, with these lines."""
+    kind, (count,) = call[0], struct.unpack_from('<H', call, 1)
+    room, *rooms = struct.unpack_from('<HH' if kind == 2 else '<H', call, 3 + 2 * count)
+    number = frame_refusal(config, count, room)
+    if number:
+        areas = [('lines', untouched(room)), *(('energies', untouched(more)) for more in rooms)]
+        return answers.Answer(kind, number, 0, '0' if kind == 2 else '-', areas)
+    if kind == 11:
+        return answers.Answer(kind, 0, 0, '-', [('lines', lines)])
+    measured = answer(config, [int(place.replace('nan', '7fc00000'), 16) for place in lines], *rooms)
+    return measured._replace(kind=kind, areas=[('lines', lines), *measured.areas])
