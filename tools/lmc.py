@@ -5,15 +5,20 @@ import struct
 ROOT = pathlib.Path(__file__).resolve().parent.parent
 
 
+def rows(name):
+    """The words of each line of a file of data/, one for each configuration."""
+    lines = (ROOT / 'data' / name).read_text(encoding='ascii').splitlines()
+    return [line.split() for line in lines if line and not line.startswith('#')]
+
+
 def columns():
     """The columns of data/configs.txt, each a list by configuration."""
-    lines = (ROOT / 'data' / 'configs.txt').read_text(encoding='ascii').splitlines()
-    rows = [map(int, line.split()) for line in lines if line and not line.startswith('#')]
-    return map(list, zip(*rows, strict=True))
+    return (list(map(int, column)) for column in zip(*rows('configs.txt'), strict=True))
 
 
 HEADER = b'LMC' + struct.pack('<H', 1)
 _, DURATION, RATE, NF, Z, NE, NB, UPPER = columns()  # durations in microseconds, rates in Hz
+EDGES = [list(map(int, edges)) for _, *edges in rows('bands.txt')]
 SIZES = sorted({n // 2 for n in NF})
 LENGTHS = sorted(set(NF))
 BAND_COUNTS = sorted(set(NB))
@@ -45,6 +50,7 @@ def clear_analysis(config):
 
 
 def analyse(frame, lines, energies):
+    """A frame to lines, and the measurement of these."""
     return bytes([2]) + samples(frame) + struct.pack('<HH', lines, energies)
 
 
@@ -78,3 +84,11 @@ def set_analysis(config, values):
 
 def set_synthesis(config, values):
     return bytes([10, config]) + floats(values)
+
+
+def transform(frame, lines):
+    return bytes([11]) + samples(frame) + struct.pack('<H', lines)
+
+
+def measure(config, lines, energies):
+    return bytes([12, config]) + floats(lines) + struct.pack('<H', energies)

@@ -1,4 +1,5 @@
 """lc3-codec's own sources, compiled unchanged by plain rustc with a main program of ours; and a copy of them with the short frames (short_copy.py).
+Behind the encoder's file, in one module with it, stands a function that calls its measurement alone.
 
 The folder of the sources is RUST_SRC, by default ../shared/docs/src beside the repository: the crate's own folder or one with its seven files.
 Where it has no mdct_windows.rs, one is made from data/windows.txt. The copy is made anew at every build, in the room of the program."""
@@ -18,6 +19,13 @@ MODULES = {
     'encoder': ['modified_dct'],
     'decoder': ['modified_dct'],
     'tables': ['band_index_tables', 'mdct_windows'],
+}
+# What stands behind a file's text, in one module with it: lc3-codec's measurement is in two functions of its own, which nothing outside of their module may call.
+BEHIND = {
+    ('encoder', 'modified_dct'): (
+        "impl<'a> ModDiscreteCosTrans<'a> { pub fn measure(&self, lines: &[Scaler], energies: &mut [Scaler]) -> bool "
+        '{ self.apply_energy_estimation(lines, energies); self.is_near_nyquist(energies) } }'
+    ),
 }
 
 
@@ -133,11 +141,18 @@ def configs_module(short):
     )
 
 
+def declared(path, folder, name):
+    """A module of a file as it stands, and of what is wanted behind it."""
+    if (folder, name) in BEHIND:
+        return f'pub mod {name} {{ include!("{path}"); {BEHIND[folder, name]} }}'
+    return f'#[path = "{path}"] pub mod {name};'
+
+
 def root_module(at, short, more=''):
     """The root of a crate: lc3-codec's modules, or its copy's, where they stand, their configurations by number, and what else it is to hold."""
     text = ['#![allow(dead_code)]', f'pub mod configs {{ {configs_module(short)} }}']
     for folder, names in MODULES.items():
-        inner = [f'#[path = "{at[folder, name]}"] pub mod {name};' for name in names]
+        inner = [declared(at[folder, name], folder, name) for name in names]
         text.append(f'pub mod {folder} {{ {" ".join(inner)} }}')
     return '\n'.join([*text, more, ''])
 
@@ -171,7 +186,7 @@ def build(main, name, taken='', short=False, beside=False, target=(), link=()):
     source = sources()
     room = ROOT / 'target' / 'rust' / name
     room.mkdir(parents=True, exist_ok=True)
-    words = list(target)
+    words = [*target, '-L', f'dependency={room}']  # where the copy finds the crates that it uses itself
     for crate in STAND_IN_CRATES:
         words += library(room, crate, STAND_INS / f'{crate}.rs', target)
     if beside:

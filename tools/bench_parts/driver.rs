@@ -4,8 +4,9 @@
 //!   count SIDE CALL CONFIG N  makes N calls and prints nothing: its instructions are what is counted
 //!   time CALL CONFIG          times all sides alternately, and prints the shortest time of a call of each, in nanoseconds, in the order below
 //!   stack SIDE CALL CONFIG    prints how many bytes of stack a call touches, a channel handed in by value included
-//! SIDE is port (the channel handed in and back by value), place (the channel where it is; a DCT, which has none, is the same call) or rust. CALL is dct,
-//! analysis or synthesis. Buffers are made once and never cleared between calls.
+//! SIDE is port (the channel handed in and back by value), place (the channel where it is; a DCT or a measurement, which has none, is the same call) or rust.
+//! CALL is dct, analysis, synthesis or measure. Analysis is of ours two calls in turn, a frame to lines and the measurement of these, and of lc3-codec its `run`;
+//! measure is the second alone, of lc3-codec the two functions that `run` ends with. Buffers are made once and never cleared between calls.
 
 mod port;
 
@@ -103,23 +104,29 @@ impl Call for PortDct {
     }
 }
 
-/// What an analysis frame is lent.
+/// What an analysis frame and its measurement are lent, and what the measurement tells.
 struct Frame {
     input: Vec<i16>,
     lines: Vec<f32>,
     energies: Vec<f32>,
+    told: port::Measured,
 }
 
 impl Frame {
     fn new(c: &Lc3Config) -> Self {
-        Frame { input: vec![0; c.nf], lines: vec![0.0; c.nf], energies: vec![0.0; c.nb] }
+        Frame { input: vec![0; c.nf], lines: vec![0.0; c.nf], energies: vec![0.0; c.nb], told: Default::default() }
     }
-    fn bits(&self, flag: bool) -> Vec<u32> {
-        bits(&self.lines).chain(bits(&self.energies)).chain([flag as u32]).collect()
+    fn measure(&mut self, config: u8) {
+        let (l, e) = (&self.lines, &mut self.energies);
+        self.told = unsafe { port::loamscarf_measure(config, l.as_ptr(), l.len(), e.as_mut_ptr(), e.len()) };
+    }
+    fn bits(&self) -> Vec<u32> {
+        assert_eq!((self.told.number, self.told.index), (0, 0), "the port refuses a measurement");
+        bits(&self.lines).chain(bits(&self.energies)).chain([self.told.flag as u32]).collect()
     }
 }
 
-struct RustAnalysis(encoder::modified_dct::ModDiscreteCosTrans<'static>, Frame, bool);
+struct RustAnalysis(encoder::modified_dct::ModDiscreteCosTrans<'static>, Frame);
 
 impl Call for RustAnalysis {
     fn give(&mut self, pick: &mut Random) {
@@ -127,10 +134,10 @@ impl Call for RustAnalysis {
     }
     fn make(&mut self) {
         let f = &mut self.1;
-        self.2 = self.0.run(&f.input, &mut f.lines, &mut f.energies);
+        f.told.flag = self.0.run(&f.input, &mut f.lines, &mut f.energies);
     }
     fn bits(&self) -> Vec<u32> {
-        self.1.bits(self.2)
+        self.1.bits()
     }
 }
 
@@ -141,12 +148,15 @@ impl Call for PortAnalysis {
         pick.samples(&mut self.1.input)
     }
     fn make(&mut self) {
-        let (x, l, e) = (&self.1.input, &mut self.1.lines, &mut self.1.energies);
-        self.0 = unsafe { port::loamscarf_analysis_frame(self.0.channel, x.as_ptr(), x.len(), l.as_mut_ptr(), l.len(), e.as_mut_ptr(), e.len()) };
+        let (x, l) = (&self.1.input, &mut self.1.lines);
+        self.0 = unsafe { port::loamscarf_analysis_frame(self.0.channel, x.as_ptr(), x.len(), l.as_mut_ptr(), l.len()) };
+        if self.0.number == 0 {
+            self.1.measure(self.0.channel.config);
+        }
     }
     fn bits(&self) -> Vec<u32> {
         assert_eq!(self.0.number, 0, "the port refuses a frame");
-        self.1.bits(self.0.flag)
+        self.1.bits()
     }
 }
 
@@ -157,14 +167,45 @@ impl Call for PlaceAnalysis {
         pick.samples(&mut self.1.input)
     }
     fn make(&mut self) {
-        let (x, l, e) = (&self.1.input, &mut self.1.lines, &mut self.1.energies);
+        let (x, l) = (&self.1.input, &mut self.1.lines);
         let c = &mut self.0.channel;
-        let told = unsafe { port::loamscarf_analysis_frame_at(c.config, &mut c.samples, x.as_ptr(), x.len(), l.as_mut_ptr(), l.len(), e.as_mut_ptr(), e.len()) };
-        (self.0.number, self.0.flag) = (told.number, told.flag);
+        self.0.number = unsafe { port::loamscarf_analysis_frame_at(c.config, &mut c.samples, x.as_ptr(), x.len(), l.as_mut_ptr(), l.len()) };
+        if self.0.number == 0 {
+            self.1.measure(self.0.channel.config);
+        }
     }
     fn bits(&self) -> Vec<u32> {
         assert_eq!(self.0.number, 0, "the port refuses a frame in place");
-        self.1.bits(self.0.flag)
+        self.1.bits()
+    }
+}
+
+struct RustMeasure(encoder::modified_dct::ModDiscreteCosTrans<'static>, Frame);
+
+impl Call for RustMeasure {
+    fn give(&mut self, pick: &mut Random) {
+        pick.floats(&mut self.1.lines)
+    }
+    fn make(&mut self) {
+        let f = &mut self.1;
+        f.told.flag = self.0.measure(&f.lines, &mut f.energies);
+    }
+    fn bits(&self) -> Vec<u32> {
+        self.1.bits()
+    }
+}
+
+struct PortMeasure(u8, Frame);
+
+impl Call for PortMeasure {
+    fn give(&mut self, pick: &mut Random) {
+        pick.floats(&mut self.1.lines)
+    }
+    fn make(&mut self) {
+        self.1.measure(self.0);
+    }
+    fn bits(&self) -> Vec<u32> {
+        self.1.bits()
     }
 }
 
@@ -216,16 +257,19 @@ impl Call for PlaceSynthesis {
     }
 }
 
+fn encoder_of(number: u8) -> encoder::modified_dct::ModDiscreteCosTrans<'static> {
+    let c = config(number);
+    let (length, _) = encoder::modified_dct::ModDiscreteCosTrans::calc_working_buffer_lengths(&c);
+    encoder::modified_dct::ModDiscreteCosTrans::new(c, lent(0, length), work(&config(number))).0
+}
+
 /// lc3-codec's call.
 fn rust(call: &str, number: u8) -> Box<dyn Call> {
     let c = config(number);
     match call {
         "dct" => Box::new(RustDct(DiscreteCosTransformIv::new(c.nf, work(&c)).0, vec![0.0; c.nf])),
-        "analysis" => {
-            let (length, _) = encoder::modified_dct::ModDiscreteCosTrans::calc_working_buffer_lengths(&c);
-            let frame = Frame::new(&c);
-            Box::new(RustAnalysis(encoder::modified_dct::ModDiscreteCosTrans::new(c, lent(0, length), work(&config(number))).0, frame, false))
-        }
+        "analysis" => Box::new(RustAnalysis(encoder_of(number), Frame::new(&c))),
+        "measure" => Box::new(RustMeasure(encoder_of(number), Frame::new(&c))),
         _ => {
             let (length, _) = decoder::modified_dct::ModDiscreteCosTrans::calc_working_buffer_length(&c);
             let (lines, samples) = (vec![0.0; c.ne], vec![0.0; c.nf]);
@@ -240,6 +284,7 @@ fn ours(call: &str, number: u8, in_place: bool) -> Box<dyn Call> {
     let (analysis, synthesis) = (port::AnalysisFramed::silent(number), port::SynthesisFramed::silent(number));
     match (call, in_place) {
         ("dct", _) => Box::new(PortDct(vec![0.0; c.nf], 0)),
+        ("measure", _) => Box::new(PortMeasure(number, Frame::new(&c))),
         ("analysis", false) => Box::new(PortAnalysis(analysis, Frame::new(&c))),
         ("analysis", true) => Box::new(PlaceAnalysis(analysis, Frame::new(&c))),
         (_, false) => Box::new(PortSynthesis(synthesis, vec![0.0; c.ne], vec![0.0; c.nf])),
@@ -260,19 +305,32 @@ fn agree(side: &str, call: &str, number: u8) -> bool {
     })
 }
 
+/// Whether a measurement of no configuration, of too few lines, of too few energies or of a line out of range is refused by number and index, and changes nothing.
+fn refuses_to_measure() -> bool {
+    let known = numbers().next().expect("a configuration");
+    let (nf, nb) = (config(known).nf, config(known).nb);
+    let mut lines = vec![3f32; nf];
+    lines[7] = f32::INFINITY;
+    [(NONE, nf, nb, 1, 0), (known, nf - 1, nb, 3, 0), (known, nf, nb - 1, 5, 0), (known, nf, nb, 6, 7)].iter().all(|&(number, from, to, refused, index)| {
+        let mut energies = vec![5f32; to];
+        let told = unsafe { port::loamscarf_measure(number, lines.as_ptr(), from, energies.as_mut_ptr(), to) };
+        told == port::Measured { number: refused, index, flag: false } && energies.iter().all(|&x| x == 5.0)
+    })
+}
+
 /// Whether a frame in place on a channel of no configuration is refused by number, and changes nothing that it is lent.
 fn refuses() -> bool {
-    let (x, mut samples, mut lines, mut energies) = ([1i16; 20], [7i16; port::ROOM], [3f32; 20], [5f32; 20]);
-    let told = unsafe { port::loamscarf_analysis_frame_at(NONE, &mut samples, x.as_ptr(), 20, lines.as_mut_ptr(), 20, energies.as_mut_ptr(), 20) };
-    let analysis = (told.number, told.flag) == (1, false) && samples == [7; port::ROOM] && lines == [3.0; 20] && energies == [5.0; 20];
+    let (x, mut samples, mut lines) = ([1i16; 20], [7i16; port::ROOM], [3f32; 20]);
+    let number = unsafe { port::loamscarf_analysis_frame_at(NONE, &mut samples, x.as_ptr(), 20, lines.as_mut_ptr(), 20) };
+    let analysis = number == 1 && samples == [7; port::ROOM] && lines == [3.0; 20];
     let (mut memory, mut out) = ([7f32; port::ROOM], [3f32; 20]);
     let told = unsafe { port::loamscarf_synthesis_frame_at(NONE, &mut memory, lines.as_ptr(), 20, out.as_mut_ptr(), 20) };
     analysis && (told.number, told.index) == (1, 0) && memory == [7.0; port::ROOM] && out == [3.0; 20]
 }
 
-/// A DCT has no channel, and is the same call on both of our sides.
+/// A DCT and a measurement have no channel, and are the same call on both of our sides.
 fn check() {
-    let compared = [("port", "dct"), ("port", "analysis"), ("port", "synthesis"), ("place", "analysis"), ("place", "synthesis")];
+    let compared = [("port", "dct"), ("port", "analysis"), ("port", "synthesis"), ("port", "measure"), ("place", "analysis"), ("place", "synthesis")];
     for (side, call) in compared {
         for number in numbers() {
             if !agree(side, call, number) {
@@ -281,8 +339,8 @@ fn check() {
             }
         }
     }
-    if !refuses() {
-        println!("a frame in place that is refused changes something, or tells another number");
+    if !refuses() || !refuses_to_measure() {
+        println!("a frame in place or a measurement that is refused changes something, or tells another number");
         std::process::exit(1);
     }
     println!("{}", ROUNDS * compared.len() * numbers().count());

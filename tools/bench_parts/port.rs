@@ -19,13 +19,14 @@ pub struct AnalysisChannel {
 #[repr(C)]
 pub struct AnalysisFramed {
     pub number: u8,
-    pub flag: bool,
     pub channel: AnalysisChannel,
 }
 
 #[repr(C)]
-pub struct AnalysisTold {
+#[derive(Clone, Copy, Debug, Default, PartialEq)]
+pub struct Measured {
     pub number: u8,
+    pub index: usize,
     pub flag: bool,
 }
 
@@ -45,7 +46,7 @@ pub struct SynthesisFramed {
 
 impl AnalysisFramed {
     pub fn silent(config: u8) -> Self {
-        AnalysisFramed { number: 0, flag: false, channel: AnalysisChannel { config, samples: [0; ROOM] } }
+        AnalysisFramed { number: 0, channel: AnalysisChannel { config, samples: [0; ROOM] } }
     }
 }
 
@@ -64,8 +65,6 @@ extern "C" {
         input_length: usize,
         lines: *mut f32,
         lines_length: usize,
-        energies: *mut f32,
-        energies_length: usize,
     ) -> AnalysisFramed;
     pub fn loamscarf_analysis_frame_at(
         config: u8,
@@ -74,9 +73,8 @@ extern "C" {
         input_length: usize,
         lines: *mut f32,
         lines_length: usize,
-        energies: *mut f32,
-        energies_length: usize,
-    ) -> AnalysisTold;
+    ) -> u8;
+    pub fn loamscarf_measure(config: u8, lines: *const f32, lines_length: usize, energies: *mut f32, energies_length: usize) -> Measured;
     pub fn loamscarf_synthesis_frame(
         channel: SynthesisChannel,
         lines: *const f32,

@@ -17,6 +17,8 @@ pub enum Call {
     Show,
     SetAnalysis(u8, Vec<i16>),
     SetSynthesis(u8, Vec<f32>),
+    Transform { input: Vec<i16>, lines: usize },
+    Measure { config: u8, lines: Vec<f32>, energies: usize },
 }
 
 /// What is left of the log.
@@ -99,6 +101,8 @@ impl<'a> Log<'a> {
             8 => Call::Show,
             9 => Call::SetAnalysis(self.byte()?, self.samples(ROOM)?),
             10 => Call::SetSynthesis(self.byte()?, self.floats(ROOM)?),
+            11 => Call::Transform { input: self.samples(MOST)?, lines: self.count(MOST)? },
+            12 => Call::Measure { config: self.byte()?, lines: self.floats(MOST)?, energies: self.count(MOST)? },
             _ => return None,
         };
         Some((kind, call))

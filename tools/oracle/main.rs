@@ -1,7 +1,8 @@
 //! The Rust's side of the bench: reads a log of calls on standard input, runs lc3-codec on each, and prints what it answers.
 //! Refusals, the loudest band and channels that came from no clear are decided here, from the paper's text.
 //! `crate::common`, `encoder`, `decoder` and `tables` are lc3-codec's own files, unchanged; the crate `short_frames` is their copy, which runs the
-//! configurations that lc3-codec does not have, and nothing else.
+//! configurations that lc3-codec does not have, and nothing else. A frame, measured or not, is lc3-codec's `run`, which does both at once; a measurement
+//! alone is the two functions that `run` measures with.
 
 mod log;
 
@@ -30,6 +31,7 @@ mod short {
 /// What lc3-codec's code does with a configuration. A channel's memory is in the buffer that it is lent.
 trait Transforms {
     fn analyse(&self, time: &mut [i16], input: &[i16], lines: &mut [f32], energies: &mut [f32]) -> bool;
+    fn measure(&self, lines: &[f32], energies: &mut [f32]) -> bool;
     fn buffer_length(&self) -> usize;
     fn synthesise(&self, buffer: &mut [f32], lines: &[f32], samples: &mut [f32]);
 }
@@ -85,24 +87,48 @@ impl Analysis {
         Analysis { config: number, samples, time }
     }
 
-    fn frame(&mut self, input: &[i16], lines: &mut [f32], energies: &mut [f32]) -> (Verdict, bool) {
-        let Some(c) = config(self.config) else {
-            return ((1, 0), false);
-        };
+    /// A frame to lines; and what lc3-codec measures of them.
+    fn frame(&mut self, input: &[i16], lines: &mut [f32]) -> Result<(Vec<f32>, bool), Verdict> {
+        let c = config(self.config).ok_or((1, 0))?;
         if input.len() != c.nf {
-            return ((3, 0), false);
+            return Err((3, 0));
         }
         if lines.len() != c.nf {
-            return ((4, 0), false);
+            return Err((4, 0));
         }
-        if energies.len() != c.nb {
-            return ((5, 0), false);
-        }
-        let flag = c.transforms.analyse(&mut self.time, input, lines, energies);
+        let mut energies = vec![0.0; c.nb];
+        let flag = c.transforms.analyse(&mut self.time, input, lines, &mut energies);
         self.samples = [0; ROOM];
         self.samples[..c.nf - c.z].copy_from_slice(&self.time[c.nf..2 * c.nf - c.z]);
-        (ACCEPTED, flag)
+        Ok((energies, flag))
     }
+
+    /// A frame to lines, and where that is accepted the measurement of them.
+    fn pair(&mut self, input: &[i16], lines: &mut [f32], energies: &mut [f32]) -> Result<bool, Verdict> {
+        let (own, flag) = self.frame(input, lines)?;
+        measurable(self.config, lines, energies)?;
+        energies.copy_from_slice(&own);
+        Ok(flag)
+    }
+}
+
+/// The configuration of a measurement that is not refused.
+fn measurable(number: u8, lines: &[f32], energies: &[f32]) -> Result<Config, Verdict> {
+    let c = config(number).ok_or((1, 0))?;
+    if lines.len() != c.nf {
+        return Err((3, 0));
+    }
+    if energies.len() != c.nb {
+        return Err((5, 0));
+    }
+    match first_failing(lines, passes_6) {
+        Some(place) => Err((6, place)),
+        None => Ok(c),
+    }
+}
+
+fn measure(number: u8, lines: &[f32], energies: &mut [f32]) -> Result<bool, Verdict> {
+    Ok(measurable(number, lines, energies)?.transforms.measure(lines, energies))
 }
 
 /// The synthesis channel: lc3-codec's own buffer, whose first places are the memory, and the array as the port shows it.
@@ -205,16 +231,12 @@ fn spelled(x: f32) -> String {
 }
 
 /// An area's line: its name and its places.
-fn show(out: &mut impl Write, name: &str, places: impl Iterator<Item = String>) -> io::Result<()> {
-    write!(out, "{name}")?;
-    for place in places {
-        write!(out, " {place}")?;
-    }
-    writeln!(out)
+fn line(name: &str, places: impl Iterator<Item = String>) -> String {
+    places.fold(name.to_string(), |text, place| text + " " + &place)
 }
 
-fn show_floats(out: &mut impl Write, name: &str, places: &[f32]) -> io::Result<()> {
-    show(out, name, places.iter().map(|&x| spelled(x)))
+fn floats(name: &str, places: &[f32]) -> String {
+    line(name, places.iter().map(|&x| spelled(x)))
 }
 
 fn padded<T: Copy>(values: &[T], zero: T) -> [T; ROOM] {
@@ -223,81 +245,101 @@ fn padded<T: Copy>(values: &[T], zero: T) -> [T; ROOM] {
     array
 }
 
-/// Both channels, and where the answers go.
-struct Bench<W: Write> {
-    analysis: Analysis,
-    synthesis: Synthesis,
-    out: W,
+/// What a call answers: number and index, the last word of its first line, and the lines of its areas.
+struct Answer {
+    verdict: Verdict,
+    extra: String,
+    areas: Vec<String>,
 }
 
-impl<W: Write> Bench<W> {
-    fn head(&mut self, count: u64, kind: u8, verdict: Verdict, extra: &str) -> io::Result<()> {
-        writeln!(self.out, "{count} {kind} {} {} {extra}", verdict.0, verdict.1)
+impl Answer {
+    fn new(verdict: Verdict, areas: Vec<String>) -> Self {
+        Answer { verdict, extra: "-".to_string(), areas }
     }
 
-    fn answer(&mut self, count: u64, kind: u8, call: Call) -> io::Result<()> {
+    /// Of a call that has a flag, which is not set beside a refusal.
+    fn flagged(told: Result<bool, Verdict>, areas: Vec<String>) -> Self {
+        Answer { verdict: told.err().unwrap_or(ACCEPTED), extra: u8::from(told == Ok(true)).to_string(), areas }
+    }
+}
+
+fn answer_fft(size: usize, inverse: bool, re: &[f32], im: &[f32], re_out: usize, im_out: usize) -> Answer {
+    let (mut real, mut imag) = (area(re_out), area(im_out));
+    let verdict = fft(size, inverse, re, im, &mut real, &mut imag);
+    Answer::new(verdict, vec![floats("real", &real), floats("imag", &imag)])
+}
+
+fn answer_dct(length: usize, mut values: Vec<f32>) -> Answer {
+    let verdict = dct(length, &mut values);
+    Answer::new(verdict, vec![floats("buffer", &values)])
+}
+
+fn answer_loudest(energies: &[f32]) -> Answer {
+    match loudest(energies) {
+        (verdict, None) => Answer::new(verdict, vec![]),
+        (verdict, Some(band)) => Answer { verdict, extra: band.to_string(), areas: vec![floats("energy", &energies[band..=band])] },
+    }
+}
+
+fn answer_measure(config: u8, lines: &[f32], energies: usize) -> Answer {
+    let mut energies = area(energies);
+    let told = measure(config, lines, &mut energies);
+    Answer::flagged(told, vec![floats("energies", &energies)])
+}
+
+/// Both channels.
+struct Bench {
+    analysis: Analysis,
+    synthesis: Synthesis,
+}
+
+impl Bench {
+    fn analyse(&mut self, input: &[i16], lines: usize, energies: usize) -> Answer {
+        let (mut lines, mut energies) = (area(lines), area(energies));
+        let told = self.analysis.pair(input, &mut lines, &mut energies);
+        Answer::flagged(told, vec![floats("lines", &lines), floats("energies", &energies)])
+    }
+
+    fn transform(&mut self, input: &[i16], lines: usize) -> Answer {
+        let mut lines = area(lines);
+        let told = self.analysis.frame(input, &mut lines);
+        Answer::new(told.err().unwrap_or(ACCEPTED), vec![floats("lines", &lines)])
+    }
+
+    fn synthesise(&mut self, lines: &[f32], samples: usize) -> Answer {
+        let mut samples = area(samples);
+        let verdict = self.synthesis.frame(lines, &mut samples);
+        Answer::new(verdict, vec![floats("samples", &samples)])
+    }
+
+    fn show(&self) -> Answer {
+        let (a, s) = (&self.analysis, &self.synthesis);
+        let samples = line(&format!("analysis {}", a.config), a.samples.iter().map(|x| x.to_string()));
+        Answer::new(ACCEPTED, vec![samples, floats(&format!("synthesis {}", s.config), &s.memory)])
+    }
+
+    /// A clear or a set channel, where the number is known or need not be.
+    fn changed(&mut self, known: bool, change: impl FnOnce(&mut Self)) -> Answer {
+        if known {
+            change(self);
+        }
+        Answer::new((!known as u8, 0), vec![])
+    }
+
+    fn answer(&mut self, call: Call) -> Answer {
         match call {
-            Call::ClearAnalysis(number) => {
-                let known = config(number).is_some();
-                if known {
-                    self.analysis = Analysis::set(number, [0; ROOM]);
-                }
-                self.head(count, kind, (!known as u8, 0), "-")
-            }
-            Call::ClearSynthesis(number) => {
-                let known = config(number).is_some();
-                if known {
-                    self.synthesis = Synthesis::set(number, [0.0; ROOM]);
-                }
-                self.head(count, kind, (!known as u8, 0), "-")
-            }
-            Call::Analyse { input, lines, energies } => {
-                let (mut lines, mut energies) = (area(lines), area(energies));
-                let (verdict, flag) = self.analysis.frame(&input, &mut lines, &mut energies);
-                self.head(count, kind, verdict, if flag { "1" } else { "0" })?;
-                show_floats(&mut self.out, "lines", &lines)?;
-                show_floats(&mut self.out, "energies", &energies)
-            }
-            Call::Synthesise { lines, samples } => {
-                let mut samples = area(samples);
-                let verdict = self.synthesis.frame(&lines, &mut samples);
-                self.head(count, kind, verdict, "-")?;
-                show_floats(&mut self.out, "samples", &samples)
-            }
-            Call::Fft { size, inverse, re, im, re_out, im_out } => {
-                let (mut real, mut imag) = (area(re_out), area(im_out));
-                let verdict = fft(size, inverse, &re, &im, &mut real, &mut imag);
-                self.head(count, kind, verdict, "-")?;
-                show_floats(&mut self.out, "real", &real)?;
-                show_floats(&mut self.out, "imag", &imag)
-            }
-            Call::Dct { length, mut values } => {
-                let verdict = dct(length, &mut values);
-                self.head(count, kind, verdict, "-")?;
-                show_floats(&mut self.out, "buffer", &values)
-            }
-            Call::Loudest(energies) => {
-                let (verdict, band) = loudest(&energies);
-                let Some(band) = band else {
-                    return self.head(count, kind, verdict, "-");
-                };
-                self.head(count, kind, verdict, &band.to_string())?;
-                show_floats(&mut self.out, "energy", &energies[band..=band])
-            }
-            Call::Show => {
-                self.head(count, kind, ACCEPTED, "-")?;
-                let (a, s) = (&self.analysis, &self.synthesis);
-                show(&mut self.out, &format!("analysis {}", a.config), a.samples.iter().map(|x| x.to_string()))?;
-                show_floats(&mut self.out, &format!("synthesis {}", s.config), &s.memory)
-            }
-            Call::SetAnalysis(number, samples) => {
-                self.analysis = Analysis::set(number, padded(&samples, 0));
-                self.head(count, kind, ACCEPTED, "-")
-            }
-            Call::SetSynthesis(number, memory) => {
-                self.synthesis = Synthesis::set(number, padded(&memory, 0.0));
-                self.head(count, kind, ACCEPTED, "-")
-            }
+            Call::ClearAnalysis(number) => self.changed(config(number).is_some(), |b| b.analysis = Analysis::set(number, [0; ROOM])),
+            Call::Analyse { input, lines, energies } => self.analyse(&input, lines, energies),
+            Call::ClearSynthesis(number) => self.changed(config(number).is_some(), |b| b.synthesis = Synthesis::set(number, [0.0; ROOM])),
+            Call::Synthesise { lines, samples } => self.synthesise(&lines, samples),
+            Call::Fft { size, inverse, re, im, re_out, im_out } => answer_fft(size, inverse, &re, &im, re_out, im_out),
+            Call::Dct { length, values } => answer_dct(length, values),
+            Call::Loudest(energies) => answer_loudest(&energies),
+            Call::Show => self.show(),
+            Call::SetAnalysis(number, samples) => self.changed(true, |b| b.analysis = Analysis::set(number, padded(&samples, 0))),
+            Call::SetSynthesis(number, memory) => self.changed(true, |b| b.synthesis = Synthesis::set(number, padded(&memory, 0.0))),
+            Call::Transform { input, lines } => self.transform(&input, lines),
+            Call::Measure { config, lines, energies } => answer_measure(config, &lines, energies),
         }
     }
 }
@@ -305,19 +347,21 @@ impl<W: Write> Bench<W> {
 pub fn main() -> io::Result<()> {
     let mut bytes = Vec::new();
     io::stdin().read_to_end(&mut bytes)?;
-    let out = io::BufWriter::new(io::stdout().lock());
-    let mut bench = Bench { analysis: Analysis::set(255, [0; ROOM]), synthesis: Synthesis::set(255, [0.0; ROOM]), out };
+    let mut out = io::BufWriter::new(io::stdout().lock());
+    let mut bench = Bench { analysis: Analysis::set(255, [0; ROOM]), synthesis: Synthesis::set(255, [0.0; ROOM]) };
     let mut log = match Log::open(&bytes) {
         Ok(log) => log,
-        Err(number) => return writeln!(bench.out, "refused {number}"),
+        Err(number) => return writeln!(out, "refused {number}"),
     };
     let mut count = 0;
     while !log.is_done() {
         let Some((kind, call)) = log.call() else {
-            return writeln!(bench.out, "stopped {count}");
+            return writeln!(out, "stopped {count}");
         };
-        bench.answer(count, kind, call)?;
+        let told = bench.answer(call);
+        writeln!(out, "{count} {kind} {} {} {}", told.verdict.0, told.verdict.1, told.extra)?;
+        told.areas.iter().try_for_each(|area| writeln!(out, "{area}"))?;
         count += 1;
     }
-    writeln!(bench.out, "end {count}")
+    writeln!(out, "end {count}")
 }

@@ -22,6 +22,12 @@ impl Transforms for Lc3Config {
         mdct.run(input, lines, energies)
     }
 
+    fn measure(&self, lines: &[f32], energies: &mut [f32]) -> bool {
+        let (mut time, mut work) = (vec![0; 2 * self.nf], work(self));
+        let (mdct, _, _) = encoder::modified_dct::ModDiscreteCosTrans::new(*self, &mut time, &mut work);
+        mdct.measure(lines, energies)
+    }
+
     fn buffer_length(&self) -> usize {
         decoder::modified_dct::ModDiscreteCosTrans::calc_working_buffer_length(self).0
     }

@@ -1,0 +1,102 @@
+"""The measurement call of document 02 §5, from the papers' text alone: its refusals in their order, and every operation rounded once to f32. And what a frame to
+lines answers, measured or not, but for the lines themselves.
+
+f64 holds a product of two f32, and of their quotient and sum enough that rounding twice is rounding once."""
+import math
+import struct
+
+import answers
+import lmc
+
+LIMIT = 0x5D800000  # 2^60
+
+
+def value(pattern):
+    """The f32 of a bit pattern."""
+    return struct.unpack('<f', struct.pack('<I', pattern))[0]
+
+
+def rounded(x):
+    """The f32 next to a number."""
+    try:
+        return struct.unpack('<f', struct.pack('<f', x))[0]
+    except OverflowError:
+        return math.copysign(math.inf, x)
+
+
+def total(values):
+    """Their sum, added one after the other."""
+    sum_so_far = 0.0
+    for x in values:
+        sum_so_far = rounded(sum_so_far + x)
+    return sum_so_far
+
+
+def energies(config, lines):
+    """Of each band the squares of its lines, each divided by the band's width, added in line order."""
+    edges = lmc.EDGES[config]
+    return [total(rounded(rounded(x * x) / (high - low)) for x in lines[low:high]) for low, high in zip(edges, edges[1:])]
+
+
+def near_nyquist(config, found):
+    """Whether the energies of the upper bands are above 30.0 times those of the lower ones; never at 48 kHz."""
+    first = lmc.NB[config] - lmc.UPPER[config]
+    return lmc.RATE[config] <= 32000 and total(found[first:]) > rounded(30.0 * total(found[:first]))
+
+
+def refusal(config, patterns, room):
+    """The number and the index of lines by their bits, and energies of so many places."""
+    if config >= len(lmc.NF):
+        return 1, 0
+    if len(patterns) != lmc.NF[config]:
+        return 3, 0
+    if room != lmc.NB[config]:
+        return 5, 0
+    failing = [place for place, pattern in enumerate(patterns) if pattern & 0x7FFFFFFF > LIMIT]
+    return (6, failing[0]) if failing else (0, 0)
+
+
+def untouched(room):
+    """An area of so many places as it is before a call."""
+    return [f'{lmc.bits(k + 0.5):08x}' for k in range(room)]
+
+
+def answer(config, patterns, room):
+    """What the measurement answers."""
+    number, index = refusal(config, patterns, room)
+    if number:
+        return answers.Answer(12, number, index, '0', [('energies', untouched(room))])
+    found = energies(config, [value(pattern) for pattern in patterns])
+    return answers.Answer(12, 0, 0, str(int(near_nyquist(config, found))), [('energies', [f'{lmc.bits(x):08x}' for x in found])])
+
+
+def asked(call):
+    """What a call's bytes hand in: the configuration, the lines, and how many places the energies have."""
+    config, count = struct.unpack_from('<BH', call, 1)
+    return config, struct.unpack_from(f'<{count}I', call, 4), struct.unpack_from('<H', call, 4 + 4 * count)[0]
+
+
+def of_call(call):
+    """What a call of kind 12 answers."""
+    return answer(*asked(call))
+
+
+def frame_refusal(config, count, room):
+    """The number of a frame of so many samples, and lines of so many places."""
+    if config >= len(lmc.NF):
+        return 1
+    return 3 if count != lmc.NF[config] else 4 if room != lmc.NF[config] else 0
+
+
+def of_frame(config, call, lines):
+    """What a call of kind 2 or 11 answers on a channel of a configuration; where its frame is taken, with these lines."""
+    kind, (count,) = call[0], struct.unpack_from('<H', call, 1)
+    room, *rooms = struct.unpack_from('<HH' if kind == 2 else '<H', call, 3 + 2 * count)
+    number = frame_refusal(config, count, room)
+    if number:
+        areas = [('lines', untouched(room)), *(('energies', untouched(more)) for more in rooms)]
+        return answers.Answer(kind, number, 0, '0' if kind == 2 else '-', areas)
+    if kind == 11:
+        return answers.Answer(kind, 0, 0, '-', [('lines', lines)])
+    measured = answer(config, [int(place.replace('nan', '7fc00000'), 16) for place in lines], *rooms)
+    return measured._replace(kind=kind, areas=[('lines', lines), *measured.areas])
