@@ -12,7 +12,7 @@ use Rattle.laws.specs.Lists.{first}
 use Rattle.laws.specs.Passes.{passes6}
 use Rattle.config.specs.Config.{valid, nf, nb}
 use Rattle.config.specs.declared.Verdict.{Verdict}
-use Rattle.measurement.specs.Measurement.{energiesOf, flagOf, Lent, Given, number, verdict, accepted, measured, measures}
+use Rattle.measurement.specs.Measurement.{energiesOf, flagOf, Lent, Given, number, verdict, measured, measures}
 
 -- the verdict, from the tests one after the other; v is what the code's test of the configuration gave, k what its search gave
 module _ (c : ℕ) (x : Lent) {v : Bool} (e : v ≡ valid c) where

@@ -1,20 +1,18 @@
 -- Document 02 §5: the pair of calls, by the number of the first and by that of the second. Assumes nothing.
-use Prim.Native.Nat.{ℕ, zero, suc, _*_, _^_, _≤_, _<_}
-use native.Mathlib.Nat.{le-trans, le-of-eq, mul-one, mul-le-mul-right}
+use Prim.Native.Nat.{ℕ, zero, suc}
+use native.Mathlib.Nat.{le-of-eq}
 use native.Mathlib.Omega.{arith}
 use mathlib.Core.Path.{_≡_, refl, sym, ap, ap₂, subst, _∙_}
 use mathlib.Core.Bool.{Bool, true, false, not, cond}
 use mathlib.Core.List.{List, _∷_}
-use lib.IntN.{ℤ}
-use lib.Dec.{T, eqb, ltb, le→leb, lit≤}
-use lib.ListN.{length, getD}
-use lib.Ieee.{Float, nan, ofBits, ofFields, odd, units, round, sum, add, mul, div, ofInt, lt}
+use lib.Dec.{T, eqb, ltb}
+use lib.ListN.{length}
+use lib.Ieee.{Float, ofBits, ofFields, odd, units, round, sum, add, mul, div, ofInt, lt}
 use lib.Count.{trailingZeros}
 use lib.Ieee.Bits.{is-true}
-use borrow.Author.Tests.{eq-eqb, eqb-true, le-ltb}
+use borrow.Author.Tests.{eq-eqb, le-ltb}
 use Rattle.laws.specs.Lists.{tab, first}
 use Rattle.laws.specs.Passes.{passes6}
-use Rattle.laws.proofs.Lists.{first-none}
 use Rattle.config.specs.Tables.{rows, edgeRows}
 use Rattle.config.specs.Config.{valid, row, nf, nb, half, edges}
 use Rattle.analysis_lines.specs.Lines.{timeBuffer, linesOf}
@@ -26,13 +24,12 @@ use Rattle.measurement.specs.Measurement as measurement
 use Rattle.measurement_steps.specs.Energy.{share, energy, bandOf, energies, total, exceeds}
 use Rattle.measurement.specs.Measurement.{energiesOf, flagOf, measures}
 use Rattle.measurement.proofs.Verdicts as verdicts
-use Rattle.bounds.specs.Within.{Within, Each}
-use Rattle.bounds.proofs.Lists.{each-at, each-weaken}
+use Rattle.bounds.specs.Within.{Each}
 use Rattle.bounds.proofs.Lines.{length-mdct}
-use Rattle.promises.specs.Sequence.{Call, frame as call, fresh, after, recall, gives}
-use Rattle.promises.specs.AnalysisChannel.{analysis, value}
+use Rattle.promises.specs.Sequence.{frame as call, fresh, after, recall, gives}
+use Rattle.promises.specs.AnalysisChannel.{analysis}
 use Rattle.promises.specs.Combined as combined
-use Rattle.promises.specs.NoOverflow.{Sample, Line, OnAny}
+use Rattle.promises.specs.NoOverflow.{Sample}
 use Rattle.promises.specs.Apart.{Given, measured, joined, inTurn, old, Pass, Never6, Apart}
 use Rattle.promises.proofs.Law.{configured}
 use Rattle.promises.proofs.AnalysisLaw.{lawful, analysis-demand3}

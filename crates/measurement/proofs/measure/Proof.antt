@@ -1,5 +1,5 @@
 -- `measure` meets its contract: what is not refused, and a refusal by its number and index. Assumes nothing.
-use mathlib.Core.Path.{_≡_, sym, ap, _∙_}
+use mathlib.Core.Path.{sym, ap, _∙_}
 use native.Mathlib.Omega.{arith}
 use borrow.Author.Needs.{needs}
 use Rattle.config.specs.declared.Verdict.{Verdict}
@@ -29,8 +29,9 @@ returns-2 c =
     let a = v .before .before .before .before .before .before .args in
     made (a .config) (lent (a .lines .now) (a .energies .now)) (v .before .before .refusal .result) _ _ (v .before .before .refusal .ensures) (v .if1 .left) (c .before .before .before .before .apply-energy-estimation .ensures) (c .is-near-nyquist .ensures)
 
-pub measure-spec : {M : Type 1} → statement M
-measure-spec =
+-- the needs without a name, for any answer: a wrong one hides none of them
+safe : tie.Need-returns → tie.Need-returns-2 → {M : Type 1} → statement M
+safe returns returns-2 =
     tie.close
     (tie.spec
     (λ c κs. search needs)
@@ -40,3 +41,6 @@ measure-spec =
     is-near-nyquist-requires
     (λ c. search needs)
     returns-2)
+
+pub measure-spec : {M : Type 1} → statement M
+measure-spec = safe returns returns-2
