@@ -12,7 +12,7 @@ use borrow.Author.Tests.{not-true, not-false, eq-eqb, ne-eqb, eqb-true}
 use Rattle.config.specs.Config.{valid, nf}
 use Rattle.analysis.specs.declared.Channel.{Channel}
 use Rattle.analysis_lines.specs.Lines.{linesOf}
-use Rattle.analysis.specs.Analysis.{keptOf, channelOf, clearing, cleared, Lent, Given, number, accepted, framed, frames}
+use Rattle.analysis.specs.Analysis.{keptOf, channelOf, held, clearing, cleared, Lent, Given, number, accepted, framed, frames}
 
 pub clear-is : (c : ℕ) (b v : Bool) → v ≡ b → v ≡ valid c → cleared c ≡ clearing b c
 unfolding cleared
@@ -52,13 +52,17 @@ passed c x = go (valid c) (eqb (length (x .input)) (nf c)) (eqb (length (x .line
     go false a b p q r e = absurd (omega arith)
 
 -- a refused call
-pub refused : (n : ℕ) (ch : Channel) (x : Lent) → (n ≡ 0 → ⊥) → _≡_ {A = Given × Channel} (framed n ch x) (record { number = n; lines = x .lines }, ch)
-refused zero ch x h = absurd (h refl)
-refused (suc n) ch x h = refl
-
-pub by-number : (ch : Channel) (x : Lent) (n : ℕ) → n ≡ number (ch .config) x → frames ch x ≡ framed n ch x
+pub refused : (ch : Channel) (x : Lent) (n : ℕ) → n ≡ number (ch .config) x → (n ≡ 0 → ⊥) → _≡_ {A = Given × Channel} (frames ch x) (record { number = n; lines = x .lines }, ch)
 unfolding frames
-by-number ch x n e = ap (λ (k : ℕ). framed k ch x) (sym e)
+refused ch x zero e h = absurd (h refl)
+refused ch x (suc n) e h = ap (λ (k : ℕ). framed k ch x) (sym e)
+
+-- a call that is not refused, and what it has made
+pub taken : (ch : Channel) (x : Lent) (n : ℕ) {s : List ℤ} {l : List Float} → n ≡ number (ch .config) x → n ≡ 0
+    → _≡_ {A = Given × Channel} (accepted (ch .config) (held ch) (x .input)) (record { number = 0; lines = l }, channelOf (ch .config) s)
+    → _≡_ {A = Given × Channel} (frames ch x) (record { number = n; lines = l }, channelOf (ch .config) s)
+unfolding frames
+taken ch x n {s} {l} e z h = ap (λ (k : ℕ). framed k ch x) (sym e ∙ z) ∙ h ∙ ap (λ (k : ℕ). (record { number = k; lines = l }, channelOf (ch .config) s)) (sym z)
 
 -- an accepted call
 pub made : (c : ℕ) (past x : List ℤ) (l : List Float) (s : List ℤ) → l ≡ linesOf c past x → s ≡ keptOf c past x

@@ -94,11 +94,10 @@ pub fn frame_at(config: u8, samples: &mut [i16; 300], input: &[i16], lines: &mut
         ≡ outcomeAt config r (now (samples .exit)) (now (lines .exit)) ⌝ }
 {
     let refusal = number(config, input, lines);
-    if refusal != 0 {
-        return refusal;
+    if refusal == 0 {
+        step(config, samples, input, lines);
     }
-    step(config, samples, input, lines);
-    0
+    refusal
 }
 
 impl Channel {

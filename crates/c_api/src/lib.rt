@@ -51,18 +51,19 @@ pub extern "C" fn loamscarf_analysis_clear(config: u8) -> analysis::Cleared
     analysis::clear(config)
 }
 
-// Entry. A frame of samples to lines. Through `Channel::frame` the compiler would copy the channel once more.
+// Entry. A frame of samples to lines. Not through `Channel::frame`: the compiler would copy the channel once more.
 #[no_mangle]
 pub extern "C" fn loamscarf_analysis_frame(
-    mut channel: analysis::Channel,
+    channel: analysis::Channel,
     input: &[i16],
     lines: &mut [f32],
 ) -> analysis::Framed
     ensures { λ r. ⌜ an.frames channel (an.lent (now (input .entry)) (now (lines .entry))) ≡ an.outcome r (now (lines .exit)) ⌝ }
 {
     let config = channel.config;
-    let number = analysis::frame_at(config, &mut channel.samples, input, lines);
-    analysis::Framed { number, channel }
+    let mut framed = analysis::Framed { number: 0, channel };
+    framed.number = analysis::frame_at(config, &mut framed.channel.samples, input, lines);
+    framed
 }
 
 // Entry. The same on a channel that stays in the caller's memory, of which it gets the configuration and the samples: nothing of it is copied.

@@ -87,9 +87,10 @@ pub fn measure(config: u8, lines: &[f32], energies: &mut [f32]) -> Measured
         };
     }
     apply_energy_estimation(config, lines, energies);
+    let flag = is_near_nyquist(config, energies);
     Measured {
         number: 0,
         index: 0,
-        flag: is_near_nyquist(config, energies),
+        flag,
     }
 }
