@@ -57,7 +57,7 @@ headerNumber Short = shortFile
 headerNumber Unmarked = badMark
 headerNumber Foreign = badVersion
 
--- ---- the calls: six fields each, kind after kind from 0 (no call) to 10; "a count or a length is 16 bits and at most 1,024"
+-- ---- the calls: six fields each, kind after kind from 0 (no call) to 12; "a count or a length is 16 bits and at most 1,024"
 unfoldable pub rows : List Field
 rows =
     Unknown ∷ Nothing ∷ Nothing ∷ Nothing ∷ Nothing ∷ Nothing ∷
@@ -70,7 +70,9 @@ rows =
     Floats 1024 ∷ Nothing ∷ Nothing ∷ Nothing ∷ Nothing ∷ Nothing ∷
     Nothing ∷ Nothing ∷ Nothing ∷ Nothing ∷ Nothing ∷ Nothing ∷
     Byte ∷ Samples 300 ∷ Nothing ∷ Nothing ∷ Nothing ∷ Nothing ∷
-    Byte ∷ Floats 300 ∷ Nothing ∷ Nothing ∷ Nothing ∷ Nothing ∷ []
+    Byte ∷ Floats 300 ∷ Nothing ∷ Nothing ∷ Nothing ∷ Nothing ∷
+    Samples 1024 ∷ Length ∷ Nothing ∷ Nothing ∷ Nothing ∷ Nothing ∷
+    Byte ∷ Floats 1024 ∷ Length ∷ Nothing ∷ Nothing ∷ Nothing ∷ []
 
 -- field i of a call of a kind
 unfoldable pub fieldOf : ℕ → ℕ → Field

@@ -16,7 +16,7 @@ pub enum Field {
 }
 
 // Six fields for each kind.
-const ROWS: [Field; 66] = [
+const ROWS: [Field; 78] = [
     // 0: no call
     Field::Unknown,
     Field::Nothing,
@@ -94,9 +94,23 @@ const ROWS: [Field; 66] = [
     Field::Nothing,
     Field::Nothing,
     Field::Nothing,
+    // 11: frame to lines alone
+    Field::Samples(1024),
+    Field::Length,
+    Field::Nothing,
+    Field::Nothing,
+    Field::Nothing,
+    Field::Nothing,
+    // 12: measurement alone
+    Field::Byte,
+    Field::Floats(1024),
+    Field::Length,
+    Field::Nothing,
+    Field::Nothing,
+    Field::Nothing,
 ];
 
-fn rows() -> [Field; 66]
+fn rows() -> [Field; 78]
     ensures { λ r. ⌜ r ≡ rows ⌝ }
 {
     ROWS
@@ -107,7 +121,7 @@ pub fn field_of(kind: usize, i: usize) -> Field
     requires { ⌜ i < 6 ⌝ }
     ensures { λ r. ⌜ r ≡ fieldOf kind i ⌝ }
 {
-    if kind > 10 {
+    if kind > 12 {
         return Field::Unknown;
     }
     let all = rows();

@@ -1,6 +1,6 @@
 -- What the code of each call computes is its definition's answer: read for read, area for area. Assumes nothing.
 use mathlib.Core.Path.{_≡_, sym, ap, _∙_}
-use mathlib.Core.Bool.{Bool, cond}
+use mathlib.Core.Bool.{Bool, false, cond}
 use mathlib.Core.List.{List, _++_}
 use Prim.Native.Nat.{ℕ}
 use lib.IntN.{ℤ}
@@ -17,6 +17,8 @@ use Rattle.dct_iv.specs.DctIv as dc
 use Rattle.analysis.specs.Analysis as an
 use Rattle.analysis.specs.declared.Channel as an-channel
 use Rattle.analysis.specs.declared.Framed as an-framed
+use Rattle.measurement.specs.Measurement as me
+use Rattle.measurement.specs.declared.Measured.{Measured}
 use Rattle.synthesis.specs.Synthesis as sy
 use Rattle.synthesis.specs.declared.Channel as sy-channel
 use Rattle.synthesis.specs.declared.Framed as sy-framed
@@ -26,39 +28,57 @@ use Rattle.loudest.specs.declared.Loudest.{Loudest}
 use Rattle.call_made.specs.declared.Answer.{Answer}
 use Rattle.call_made.specs.declared.Analysed.{Analysed}
 use Rattle.call_made.specs.declared.Played.{Played}
-use Rattle.call_made.specs.Made.{area, answerOf, one, plain, analysed, played, analyseOn, playOn, fftOn, dct, told, loudestOn}
+use Rattle.call_made.specs.Made.{count, area, lent, answerOf, one, plain, analysed, played, frameOn, measureOn, measureAfter, playOn, fftOn, dct, told, loudestOn}
 use Rattle.call_made.proofs.Lends.{Lends}
 
 -- n places of an output area
 abbrev pub Area : List ℕ → ℕ → List Float → Type 0
 Area = Lends 1024 area
 
--- 4: with what a frame gave, m places of a room lent
+-- a call on x, with m places of a room lent: `make` is its answer, from what the call gave
+module _ {X G R : Type 0} (call : X → List Float → G) (make : G → ℕ → List Float → R) where
+  lent-is : {x y : X} {l : List ℕ} {m : ℕ} {room : List Float} {g : G} → y ≡ x → Area l m room → call y (take m room) ≡ g → make g m room ≡ make (call x (lent l)) (count l) area
+  lent-is {m = m} {room = room} ex u e =
+      ap (λ (g : G). make g m room) (sym e) ∙ (λ j. make (call (ex j) (take (u .asked j) (u .new j))) (u .asked j) (u .new j))
+
+-- 4: with what a frame gave
 abbrev playedAs : sy.Given × sy-channel.Channel → ℕ → List Float → Played
-playedAs f m room = played (f .1) (one (f .0 .number) (f .0 .index) (f .0 .samples ++ drop m room) m)
+playedAs f m room = played (f .1) (one (f .0 .number) (f .0 .index) Nothing (f .0 .samples ++ drop m room) m)
 
 pub played-is : (ch : sy-channel.Channel) {x y : List Float} {l : List ℕ} {m : ℕ} {room : List Float} (r : sy-framed.Framed) (out : List Float) {a : Answer} →
     y ≡ x → Area l m room → sy.frames ch (sy.lent y (take m room)) ≡ sy.outcome r out →
-    a ≡ one (r .number) (r .index) (out ++ drop m room) m → played (r .channel) a ≡ playOn ch x l
+    a ≡ one (r .number) (r .index) Nothing (out ++ drop m room) m → played (r .channel) a ≡ playOn ch x l
 unfolding playOn
-played-is ch {m = m} {room = room} r out ex lent e ea =
-    ap (played (r .channel)) ea
-    ∙ ap (λ (f : sy.Given × sy-channel.Channel). playedAs f m room) (sym e)
-    ∙ (λ j. playedAs (sy.frames ch (sy.lent (ex j) (take (lent .asked j) (lent .new j)))) (lent .asked j) (lent .new j))
+played-is ch r out ex u e ea = ap (played (r .channel)) ea ∙ lent-is (λ y p. sy.frames ch (sy.lent y p)) playedAs ex u e
 
--- 2: the same, with m places of one room and n of another
-abbrev analysedAs : an.Given × an-channel.Channel → ℕ → List Float → ℕ → List Float → Analysed
-analysedAs f m room n other =
-    analysed (f .1) (answerOf (f .0 .number) 0 (Flag (f .0 .flag)) (f .0 .lines ++ drop m room) m (f .0 .energies ++ drop n other) n)
+-- 11: the same
+abbrev framedAs : an.Given × an-channel.Channel → ℕ → List Float → Analysed
+framedAs f m room = analysed (f .1) (one (f .0 .number) 0 Nothing (f .0 .lines ++ drop m room) m)
 
-pub analysed-is : (ch : an-channel.Channel) {x y : List ℤ} {l : List ℕ} {m n : ℕ} {room other : List Float} (r : an-framed.Framed) (p q : List Float) {a : Answer} →
-    y ≡ x → Area l m room → Area (drop 2 l) n other → an.frames ch (an.lent y (take m room) (take n other)) ≡ an.outcome r p q →
-    a ≡ answerOf (r .number) 0 (Flag (r .flag)) (p ++ drop m room) m (q ++ drop n other) n → analysed (r .channel) a ≡ analyseOn ch x l
-unfolding analyseOn
-analysed-is ch {m = m} {n = n} {room = room} {other = other} r p q ex u v e ea =
-    ap (analysed (r .channel)) ea
-    ∙ ap (λ (f : an.Given × an-channel.Channel). analysedAs f m room n other) (sym e)
-    ∙ (λ j. analysedAs (an.frames ch (an.lent (ex j) (take (u .asked j) (u .new j)) (take (v .asked j) (v .new j)))) (u .asked j) (u .new j) (v .asked j) (v .new j))
+pub framed-is : (ch : an-channel.Channel) {x y : List ℤ} {l : List ℕ} {m : ℕ} {room : List Float} (r : an-framed.Framed) (out : List Float) {a : Answer} →
+    y ≡ x → Area l m room → an.frames ch (an.lent y (take m room)) ≡ an.outcome r out →
+    a ≡ one (r .number) 0 Nothing (out ++ drop m room) m → analysed (r .channel) a ≡ frameOn ch x l
+unfolding frameOn
+framed-is ch r out ex u e ea = ap (analysed (r .channel)) ea ∙ lent-is (λ y p. an.frames ch (an.lent y p)) framedAs ex u e
+
+-- 12: with what a measurement gave
+abbrev measuredAs : me.Given → ℕ → List Float → Answer
+measuredAs g m room = one (g .number) (g .index) (Flag (g .flag)) (g .energies ++ drop m room) m
+
+pub measured-is : (c : ℕ) (x : List Float) {l : List ℕ} {m : ℕ} {room : List Float} (r : Measured) (out : List Float) {a : Answer} →
+    Area l m room → me.outcome r out ≡ me.measures c (me.lent x (take m room)) →
+    a ≡ one (r .number) (r .index) (Flag (r .flag)) (out ++ drop m room) m → a ≡ measureOn c x l
+unfolding measureOn
+measured-is c x r out u e ea = ea ∙ lent-is (λ y p. me.measures c (me.lent y p)) measuredAs (λ _. x) u (sym e)
+
+-- 2: the measurement after a frame's answer
+pub unmeasured-is : (c : ℕ) (a : Answer) (l : List ℕ) → (a .number ≡ 0 → ⊥) → one (a .number) (a .index) (Flag false) area (count l) ≡ measureAfter c a l
+unfolding measureAfter
+unmeasured-is c a l h = simp (ne-eqb (a .number) 0 h)
+
+pub measured-after : (c : ℕ) (a : Answer) (l : List ℕ) → a .number ≡ 0 → measureOn c (take (a .m) (a .x)) l ≡ measureAfter c a l
+unfolding measureAfter
+measured-after c a l h = simp (eq-eqb (a .number) 0 h)
 
 -- 5: with what the transform gave
 abbrev transformedAs : ft.Answer → ℕ → List Float → ℕ → List Float → Answer
@@ -74,11 +94,11 @@ transformed-is b x {m = m} {n = n} {room = room} {other = other} r p q es ei ey 
 
 -- 6: with what the DCT left
 abbrev turnedAs : dc.Answer → ℕ → List Float → Answer
-turnedAs a m room = one (a .judged .number) (a .judged .index) (a .held ++ drop m room) m
+turnedAs a m room = one (a .judged .number) (a .judged .index) Nothing (a .held ++ drop m room) m
 
 pub turned-is : (b : List ℕ) {m : ℕ} {room : List Float} (r : Verdict) (p : List Float) {a : Answer} →
     Area (drop 3 b) m room → dc.left r p ≡ dc.answer (short (drop 1 b)) (tab (length (take m room)) (floatOf (drop 3 b))) →
-    a ≡ one (r .number) (r .index) (p ++ drop m room) m → a ≡ dct b
+    a ≡ one (r .number) (r .index) Nothing (p ++ drop m room) m → a ≡ dct b
 unfolding dct
 turned-is b {m = m} {room = room} r p u e ea =
     ea

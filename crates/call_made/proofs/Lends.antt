@@ -2,7 +2,9 @@
 use mathlib.Core.Path.{_≡_, sym, ap, _∙_}
 use mathlib.Core.List.{List, _++_}
 use Prim.Native.Nat.{ℕ, _≤_, min}
-use lib.ListN.{length, take, drop}
+use native.Mathlib.Omega.{arith}
+use lib.ListN.{length, take, drop, length-append}
+use lib.Seq.{length-take-le}
 use Rattle.laws.specs.Lists.{tab}
 use Rattle.call_log.specs.Log.{short, Places}
 
@@ -24,3 +26,9 @@ pub filled : {A : Type 0} {most n : ℕ} {fresh room last : List A} {l read : Li
     Lends most fresh l n room → read ≡ l → last ≡ tab (length (take n room)) (f read) →
     last ++ drop n room ≡ tab (min (short l) most) (f l) ++ drop (min (short l) most) fresh
 filled {n = n} {room = room} f u e held = ap (λ (x : List _). x ++ drop n room) held ∙ (λ j. tab (u .long j) (f (e j)) ++ drop (u .asked j) (u .new j))
+
+-- the lent places are there still when they have become `last`
+pub still : {A : Type 0} (n : ℕ) (room last : List A) → Places n room → length last ≡ length (take n room) → Places n (last ++ drop n room)
+still n room last p e =
+    let h : n ≤ length (last ++ drop n room) = omega (arith, length-append last (drop n room)) in
+    (h, sym (length-take-le n (last ++ drop n room) h))

@@ -1,6 +1,6 @@
 -- What each call of the log answers: the entries' own definitions, on the values that stand in the call's bytes b, kind byte first. Definitions only.
 use Prim.Native.Nat.{ℕ, _+_, _*_, min}
-use mathlib.Core.Bool.{Bool, cond}
+use mathlib.Core.Bool.{false, cond}
 use mathlib.Core.List.{List, _++_}
 use lib.IntN.{ℤ, pos}
 use lib.Dec.{eqb}
@@ -14,6 +14,7 @@ use Rattle.kissfft.specs.Fft as ft
 use Rattle.dct_iv.specs.DctIv as dc
 use Rattle.analysis.specs.Analysis as an
 use Rattle.analysis.specs.declared.Channel as an-channel
+use Rattle.measurement.specs.Measurement as me
 use Rattle.synthesis.specs.Synthesis as sy
 use Rattle.synthesis.specs.declared.Channel as sy-channel
 use Rattle.loudest.specs.Loudest.{heard}
@@ -62,11 +63,11 @@ abbrev pub answerOf : ℕ → ℕ → Extra → List Float → ℕ → List Floa
 answerOf number index e x m y n = record { number = number; index = index; extra = e; x = x; m = m; y = y; n = n }
 
 -- with one output area, and with none
-abbrev pub one : ℕ → ℕ → List Float → ℕ → Answer
-one number index x m = answerOf number index Nothing x m area 0
+abbrev pub one : ℕ → ℕ → Extra → List Float → ℕ → Answer
+one number index e x m = answerOf number index e x m area 0
 
 abbrev pub plain : ℕ → Answer
-plain number = one number 0 area 0
+plain number = one number 0 Nothing area 0
 
 abbrev pub analysed : an-channel.Channel → Answer → Analysed
 analysed ch a = record { channel = ch; answer = a }
@@ -82,20 +83,44 @@ clearAnalysis old b = let c = an.cleared (getD b 1 0) in analysed (cond (eqb (c 
 unfoldable pub clearSynthesis : sy-channel.Channel → List ℕ → Played
 clearSynthesis old b = let c = sy.cleared (getD b 1 0) in played (cond (eqb (c .number) 0) (c .channel) old) (plain (c .number))
 
--- 2: on the samples x, with the lengths of the two areas at the front of l
-unfoldable pub analyseOn : an-channel.Channel → List ℤ → List ℕ → Analysed
-analyseOn ch x l =
-    let f = an.frames ch (an.lent x (lent l) (lent (drop 2 l))) in
-    analysed (f .1) (answerOf (f .0 .number) 0 (Flag (f .0 .flag)) (whole l (f .0 .lines)) (count l) (whole (drop 2 l) (f .0 .energies)) (count (drop 2 l)))
+-- 11: "the frame to lines alone": on the samples x, with the length of the lines' area at the front of l
+unfoldable pub frameOn : an-channel.Channel → List ℤ → List ℕ → Analysed
+frameOn ch x l =
+    let f = an.frames ch (an.lent x (lent l)) in
+    analysed (f .1) (one (f .0 .number) 0 Nothing (whole l (f .0 .lines)) (count l))
 
-abbrev pub analyse : an-channel.Channel → List ℕ → Analysed
-analyse ch b = analyseOn ch (samples (drop 1 b)) (pastSamples (drop 1 b))
+abbrev pub frame : an-channel.Channel → List ℕ → Analysed
+frame ch b = frameOn ch (samples (drop 1 b)) (pastSamples (drop 1 b))
+
+-- 12: "the measurement alone": at the configuration c, of the lines x, with the length of the energies' area at the front of l
+unfoldable pub measureOn : ℕ → List Float → List ℕ → Answer
+measureOn c x l =
+    let g = me.measures c (me.lent x (lent l)) in
+    one (g .number) (g .index) (Flag (g .flag)) (whole l (g .energies)) (count l)
+
+abbrev pub measure : List ℕ → Answer
+measure b = measureOn (getD b 1 0) (floats (drop 2 b)) (pastFloats (drop 2 b))
+
+-- 2: "both in turn: the frame to lines, and where that is accepted the measurement of its lines at the channel's configuration". The second, after a
+-- frame's answer a, whose lines are the places of its area: where the frame was refused no call, and the energies' area untouched
+unfoldable pub measureAfter : ℕ → Answer → List ℕ → Answer
+measureAfter c a l =
+    cond (eqb (a .number) 0) (measureOn c (take (a .m) (a .x)) l) (one (a .number) (a .index) (Flag false) area (count l))
+
+-- "NUMBER and INDEX are those of the first of the two calls that is refused, else 0; areas as the calls left them"
+abbrev pub both : Answer → Answer → Answer
+both a g = answerOf (g .number) (g .index) (g .extra) (a .x) (a .m) (g .x) (g .m)
+
+unfoldable pub analyse : an-channel.Channel → List ℕ → Analysed
+analyse ch b =
+    let f = frame ch b in
+    analysed (f .channel) (both (f .answer) (measureAfter (ch .config) (f .answer) (drop 2 (pastSamples (drop 1 b)))))
 
 -- 4: on the lines x, with the length of the area at the front of l
 unfoldable pub playOn : sy-channel.Channel → List Float → List ℕ → Played
 playOn ch x l =
     let f = sy.frames ch (sy.lent x (lent l)) in
-    played (f .1) (one (f .0 .number) (f .0 .index) (whole l (f .0 .samples)) (count l))
+    played (f .1) (one (f .0 .number) (f .0 .index) Nothing (whole l (f .0 .samples)) (count l))
 
 abbrev pub play : sy-channel.Channel → List ℕ → Played
 play ch b = playOn ch (floats (drop 1 b)) (pastFloats (drop 1 b))
@@ -114,12 +139,12 @@ unfoldable pub dct : List ℕ → Answer
 dct b =
     let x = drop 3 b in
     let a = dc.answer (short (drop 1 b)) (floats x) in
-    one (a .judged .number) (a .judged .index) (whole x (a .held)) (count x)
+    one (a .judged .number) (a .judged .index) Nothing (whole x (a .held)) (count x)
 
 -- 7: the area has the energy, where it is loud
 abbrev pub told : Heard → Loudest → Answer
-told h Quiet = one (h .number) (h .index) area 0
-told h (Loud band energy) = answerOf (h .number) (h .index) (Band band) (set area 0 energy) 1 area 0
+told h Quiet = one (h .number) (h .index) Nothing area 0
+told h (Loud band energy) = one (h .number) (h .index) (Band band) (set area 0 energy) 1
 
 unfoldable pub loudestOn : List Float → Answer
 loudestOn x = let h = heard x in told h (h .loudest)
@@ -162,7 +187,8 @@ withAnswer s x = benchOf (s .analysis) (s .synthesis) x
 unfoldable pub onNone : Bench → ℕ → List ℕ → Bench
 onNone s kind b =
     cond (eqb kind 5) (withAnswer s (fft b))
-    (cond (eqb kind 6) (withAnswer s (dct b)) (cond (eqb kind 7) (withAnswer s (loudest b)) s))
+    (cond (eqb kind 6) (withAnswer s (dct b))
+    (cond (eqb kind 7) (withAnswer s (loudest b)) (cond (eqb kind 12) (withAnswer s (measure b)) s)))
 
 unfoldable pub onSynthesis : Bench → ℕ → List ℕ → Bench
 onSynthesis s kind b =
@@ -172,4 +198,5 @@ onSynthesis s kind b =
 unfoldable pub made : Bench → ℕ → List ℕ → Bench
 made s kind b =
     cond (eqb kind 1) (withAnalysis s (clearAnalysis (s .analysis) b))
-    (cond (eqb kind 2) (withAnalysis s (analyse (s .analysis) b)) (cond (eqb kind 9) (withAnalysis s (setAnalysis b)) (onSynthesis s kind b)))
+    (cond (eqb kind 2) (withAnalysis s (analyse (s .analysis) b))
+    (cond (eqb kind 9) (withAnalysis s (setAnalysis b)) (cond (eqb kind 11) (withAnalysis s (frame (s .analysis) b)) (onSynthesis s kind b))))

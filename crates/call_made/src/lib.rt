@@ -1,15 +1,12 @@
 // The calls of a log (`LMC`), made: the bytes of a whole call and the channels in, the channels and the answer out. New in this port.
 ghost use mathlib.Core.Path.{_≡_};
-ghost use mathlib.Core.Bool.{cond};
-ghost use lib.Dec.{eqb};
 ghost use lib.IntN.{pos};
 ghost use lib.Ieee.{ofBits, binary32};
-ghost use lib.ListN.{length, getD, drop, replicate};
+ghost use lib.ListN.{length, drop, replicate};
 ghost use Rattle.laws.specs.Lists.{tab};
-ghost use Rattle.call_log.specs.Log.{short, sampleOf, floatOf};
+ghost use Rattle.call_log.specs.Log.{short, Places, sampleOf, floatOf};
 ghost use Rattle.dct_iv.specs.DctIv as dc;
-ghost use Rattle.call_text.specs.declared.Extra.the-variants.{Nothing, Flag};
-ghost use Rattle.call_made.specs.Made.{floats, pastFloats, pastSamples, answerOf, one, plain, clearAnalysis, clearSynthesis, analyseOn, analyse, playOn, play, fftOn, fft, dct, loudestOn, loudest, setAnalysis, setSynthesis, withAnalysis, withSynthesis, withAnswer, fresh, onNone, onSynthesis, made};
+ghost use Rattle.call_made.specs.Made.{floats, pastFloats, pastSamples, one, plain, clearAnalysis, clearSynthesis, frameOn, frame, measureOn, measure, measureAfter, both, analyse, playOn, play, fftOn, fft, dct, loudestOn, loudest, setAnalysis, setSynthesis, withAnalysis, withSynthesis, withAnswer, fresh, onNone, onSynthesis, made};
 use call_text::Extra;
 use loudest::Loudest;
 
@@ -72,40 +69,32 @@ fn read_floats<'a>(b: &'a [u8], out: &mut [f32]) -> &'a [u8]
     call_log::rest(b, 2 + 4 * call_log::count(b))
 }
 
+// The bytes after the samples that follow a count.
+fn past_samples(b: &[u8]) -> &[u8]
+    ensures { λ r. ⌜ now r ≡ pastSamples (now (b .entry)) ⌝ }
+{
+    call_log::rest(b, 2 + 2 * call_log::count(b))
+}
+
 // The answer of a call that has no output area.
 fn plain(number: u8) -> Answer
     ensures { λ r. ⌜ r ≡ plain number ⌝ }
 {
-    one_area(number, 0, call_log::area(), 0)
+    one_area(number, 0, Extra::Nothing, call_log::area(), 0)
 }
 
 // The answer of a call that has one, m places of x.
-fn one_area(number: u8, index: usize, x: [f32; 1024], m: usize) -> Answer
-    ensures { λ r. ⌜ r ≡ one number index x m ⌝ }
+fn one_area(number: u8, index: usize, extra: Extra, x: [f32; 1024], m: usize) -> Answer
+    ensures { λ r. ⌜ r ≡ one number index extra x m ⌝ }
 {
     Answer {
         number,
         index,
-        extra: Extra::Nothing,
+        extra,
         x,
         m,
         y: call_log::area(),
         n: 0,
-    }
-}
-
-// The answer of an analysis frame.
-fn flagged(number: u8, flag: bool, x: [f32; 1024], m: usize, y: [f32; 1024], n: usize) -> Answer
-    ensures { λ r. ⌜ r ≡ answerOf number 0 (Flag flag) x m y n ⌝ }
-{
-    Answer {
-        number,
-        index: 0,
-        extra: Extra::Flag(flag),
-        x,
-        m,
-        y,
-        n,
     }
 }
 
@@ -125,31 +114,115 @@ fn clear_analysis(old: analysis::Channel, b: &[u8]) -> Analysed
     }
 }
 
-// 2: analysis frame: the samples, the call.
-fn analyse(channel: analysis::Channel, b: &[u8]) -> Analysed
-    ensures { λ r. ⌜ r ≡ analyse channel (now (b .entry)) ⌝ }
+// 11: frame to lines alone: the samples, the call. That the area has the places is said again, since lending them needs it.
+fn frame(channel: analysis::Channel, b: &[u8]) -> Analysed
+    ensures { λ r. ⌜ r ≡ frame channel (now (b .entry)) ⌝ }
+    ensures { λ r. ⌜ Places (r .answer .m) (r .answer .x) ⌝ }
 {
     let input = call_log::rest(b, 1);
     let mut room = samples_room();
     let k = call_log::count_samples(input, &room);
-    analyse_on(channel, input, &mut room[..k])
+    frame_on(channel, input, &mut room[..k])
 }
 
-fn analyse_on(channel: analysis::Channel, b: &[u8], input: &mut [i16]) -> Analysed
-    ensures { λ r. ⌜ r ≡ analyseOn channel (tab (length (now (input .entry))) (sampleOf (now (b .entry)))) (pastSamples (now (b .entry))) ⌝ }
+fn frame_on(channel: analysis::Channel, b: &[u8], input: &mut [i16]) -> Analysed
+    ensures { λ r. ⌜ r ≡ frameOn channel (tab (length (now (input .entry))) (sampleOf (now (b .entry)))) (pastSamples (now (b .entry))) ⌝ }
+    ensures { λ r. ⌜ Places (r .answer .m) (r .answer .x) ⌝ }
     ensures { λ r. ⌜ now (input .exit) ≡ tab (length (now (input .entry))) (sampleOf (now (b .entry))) ⌝ }
 {
     call_log::samples(b, input);
-    let lengths = call_log::rest(b, 2 + 2 * call_log::count(b));
     let mut x = call_log::area();
-    let mut y = call_log::area();
+    let m = call_log::count_floats(past_samples(b), &x);
+    let framed = channel.frame(input, &mut x[..m]);
+    let after = framed.channel;
+    Analysed {
+        channel: after,
+        answer: one_area(framed.number, 0, Extra::Nothing, x, m),
+    }
+}
+
+// 12: measurement alone: the lines, the call.
+fn measure(b: &[u8]) -> Answer
+    ensures { λ r. ⌜ r ≡ measure (now (b .entry)) ⌝ }
+{
+    let input = call_log::rest(b, 2);
+    let mut room = call_log::area();
+    let k = call_log::count_floats(input, &room);
+    measure_read(call_log::byte_at(b, 1), input, &mut room[..k])
+}
+
+fn measure_read(config: u8, b: &[u8], lines: &mut [f32]) -> Answer
+    ensures { λ r. ⌜ r ≡ measureOn config (tab (length (now (lines .entry))) (floatOf (now (b .entry)))) (pastFloats (now (b .entry))) ⌝ }
+    ensures { λ r. ⌜ now (lines .exit) ≡ tab (length (now (lines .entry))) (floatOf (now (b .entry))) ⌝ }
+{
+    let lengths = read_floats(b, lines);
+    measure_on(config, lines, lengths)
+}
+
+fn measure_on(config: u8, lines: &[f32], lengths: &[u8]) -> Answer
+    ensures { λ r. ⌜ r ≡ measureOn config (now (lines .entry)) (now (lengths .entry)) ⌝ }
+{
+    let mut x = call_log::area();
     let m = call_log::count_floats(lengths, &x);
-    let n = call_log::count_floats(call_log::rest(lengths, 2), &y);
-    let framed = channel.frame(input, &mut x[..m], &mut y[..n]);
+    let measured = measurement::measure(config, lines, &mut x[..m]);
+    one_area(
+        measured.number,
+        measured.index,
+        Extra::Flag(measured.flag),
+        x,
+        m,
+    )
+}
+
+// 2: analysis frame: both in turn, the frame to lines and the measurement of them.
+fn analyse(channel: analysis::Channel, b: &[u8]) -> Analysed
+    ensures { λ r. ⌜ r ≡ analyse channel (now (b .entry)) ⌝ }
+{
+    let framed = frame(channel, b);
     let next = framed.channel;
+    let lines = framed.answer;
+    let lengths = past_samples(call_log::rest(b, 1));
+    let energies = measure_after(channel.config, lines, call_log::rest(lengths, 2));
     Analysed {
         channel: next,
-        answer: flagged(framed.number, framed.flag, x, m, y, n),
+        answer: both(lines, energies),
+    }
+}
+
+// The measurement after a frame. Where that was refused no call is made.
+fn measure_after(config: u8, framed: Answer, lengths: &[u8]) -> Answer
+    requires { ⌜ Places (framed .m) (framed .x) ⌝ }
+    ensures { λ r. ⌜ r ≡ measureAfter config framed (now (lengths .entry)) ⌝ }
+{
+    if framed.number != 0 {
+        return one_area(
+            framed.number,
+            framed.index,
+            Extra::Flag(false),
+            call_log::area(),
+            call_log::count(lengths),
+        );
+    }
+    let x = framed.x;
+    let m = framed.m;
+    measure_on(config, &x[..m], lengths)
+}
+
+// One answer of the two.
+fn both(first: Answer, second: Answer) -> Answer
+    ensures { λ r. ⌜ r ≡ both first second ⌝ }
+{
+    let x = first.x;
+    let y = second.x;
+    let extra = second.extra;
+    Answer {
+        number: second.number,
+        index: second.index,
+        extra,
+        x,
+        m: first.m,
+        y,
+        n: second.m,
     }
 }
 
@@ -190,7 +263,7 @@ fn play_on(channel: synthesis::Channel, b: &[u8], lines: &mut [f32]) -> Played
     let next = framed.channel;
     Played {
         channel: next,
-        answer: one_area(framed.number, framed.index, x, m),
+        answer: one_area(framed.number, framed.index, Extra::Nothing, x, m),
     }
 }
 
@@ -244,7 +317,7 @@ fn dct(b: &[u8]) -> Answer
     let mut x = call_log::area();
     let m = call_log::count_floats(call_log::rest(b, 3), &x);
     let v = dct_on(b, &mut x[..m]);
-    one_area(v.number, v.index, x, m)
+    one_area(v.number, v.index, Extra::Nothing, x, m)
 }
 
 fn dct_on(b: &[u8], values: &mut [f32]) -> config::Verdict
@@ -272,18 +345,10 @@ fn loudest_on(b: &[u8], energies: &mut [f32]) -> Answer
     let found = heard.loudest;
     let mut x = call_log::area();
     let Loudest::Loud(band, energy) = found else {
-        return one_area(heard.number, heard.index, x, 0);
+        return one_area(heard.number, heard.index, Extra::Nothing, x, 0);
     };
     x[0] = energy;
-    Answer {
-        number: heard.number,
-        index: heard.index,
-        extra: Extra::Band(band),
-        x,
-        m: 1,
-        y: call_log::area(),
-        n: 0,
-    }
+    one_area(heard.number, heard.index, Extra::Band(band), x, 1)
 }
 
 // 9: set of the analysis channel.
@@ -381,6 +446,7 @@ impl Bench {
             5 => self.answered(fft(b)),
             6 => self.answered(dct(b)),
             7 => self.answered(loudest(b)),
+            12 => self.answered(measure(b)),
             _ => self,
         }
     }
@@ -405,6 +471,7 @@ impl Bench {
             1 => self.analysed(clear_analysis(self.analysis, b)),
             2 => self.analysed(analyse(self.analysis, b)),
             9 => self.analysed(set_analysis(b)),
+            11 => self.analysed(frame(self.analysis, b)),
             _ => self.on_synthesis(kind, b),
         }
     }

@@ -61,13 +61,16 @@ abbrev pub energyLine : List Float → List ℕ
 energyLine [] = []
 energyLine (x ∷ xs) = areaLine energy (x ∷ xs)
 
--- "kind 2 `lines`, `energies`; 4 `samples`; 5 `real`, `imag`; 6 `buffer`; 7, when loud, `energy`": the lines of the areas x and y
+-- "kind 2 `lines`, `energies`; 4 `samples`; 5 `real`, `imag`; 6 `buffer`; 7, when loud, `energy`", "Kind 11: .. area `lines`. Kind 12: .. area `energies`":
+-- the lines of the areas x and y
 abbrev pub areaLines : ℕ → List Float → List Float → List ℕ
 areaLines kind x y =
     cond (eqb kind 2) (areaLine lines x ++ areaLine energies y)
     (cond (eqb kind 4) (areaLine samples x)
     (cond (eqb kind 5) (areaLine real x ++ areaLine imag y)
-    (cond (eqb kind 6) (areaLine buffer x) (cond (eqb kind 7) (energyLine x) []))))
+    (cond (eqb kind 6) (areaLine buffer x)
+    (cond (eqb kind 7) (energyLine x)
+    (cond (eqb kind 11) (areaLine lines x) (cond (eqb kind 12) (areaLine energies x) []))))))
 
 -- a word and a number, as `stopped K`
 unfoldable pub worded : List ℕ → ℕ → List ℕ
@@ -91,7 +94,7 @@ synthesisLine config x = worded synthesis config ++ spaced value x ++ newline
 unfoldable pub numbers : ℕ → ℕ → List ℕ
 numbers a b = decimal a ++ space ++ decimal b ++ space
 
--- "EXTRA is the flag 0 or 1 for kind 2, the band or `-` for kind 7, `-` else"
+-- "EXTRA is the flag 0 or 1 for kind 2, the band or `-` for kind 7, `-` else", "Kind 12: EXTRA the flag"
 abbrev pub extra : Extra → List ℕ
 extra Nothing = 0x2d ∷ []
 extra (Flag flag) = cond flag 0x31 0x30 ∷ []

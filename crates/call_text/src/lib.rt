@@ -11,7 +11,7 @@ ghost use Rattle.plain_text.specs.Text.{space, newline, decimal};
 ghost use Rattle.call_text.specs.Page.{page, written};
 ghost use Rattle.call_text.specs.Lines.{value, sign, sample, spaced, worded, numbers, extra, answer, areaLine, energyLine, areaLines, callText, analysisLine, synthesisLine, showText, lastLine};
 
-// What a call's first line says last: nothing, the flag of a frame, the loudest band.
+// What a call's first line says last: nothing, the flag of a measurement, the loudest band.
 pub enum Extra {
     Nothing,
     Flag(bool),
@@ -220,6 +220,8 @@ fn put_areas(out: &mut [u8], at: usize, kind: u8, x: &[f32], y: &[f32]) -> usize
         5 => put_both(out, at, b"real", x, b"imag", y),
         6 => put_area(out, at, b"buffer", x),
         7 => put_energy(out, at, x),
+        11 => put_area(out, at, b"lines", x),
+        12 => put_area(out, at, b"energies", x),
         _ => at,
     }
 }

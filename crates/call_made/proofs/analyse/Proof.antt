@@ -1,50 +1,33 @@
--- `call_made::analyse` meets its contract: as many samples are read as the count asks for. Assumes nothing.
-use mathlib.Core.Path.{_∙_}
-use Rattle.laws.specs.Lists.{tab}
-use Rattle.call_log.specs.Log.{sampleOf}
+-- `call_made::analyse` meets its contract: the measurement comes after the frame, with the length that follows the frame's. Assumes nothing.
+use mathlib.Core.Path.{ap, _∙_}
+use lib.ListN.{drop}
 use borrow.Author.Needs.{needs}
-use Rattle.call_made.specs.Made.{analyseOn, pastSamples}
-use Rattle.call_made.proofs.Lends.{lends}
+use Rattle.call_made.specs.Made.{pastSamples, analysed, measureAfter, both, analyse}
 use Rattle.call_made.proofs.analyse.Statement.{statement}
 use Rattle.call_made.proofs.analyse.Tie as tie
 
-rest-requires : tie.Need-rest-requires
-rest-requires c κs = search needs
-
-samples-room-requires : tie.Need-samples-room-requires
-samples-room-requires c κs = search needs
-
-slice-aggregate-count-samples : tie.Need-slice-aggregate-count-samples
-slice-aggregate-count-samples c = search needs
-
-count-samples-requires : tie.Need-count-samples-requires
-count-samples-requires c κs = search needs
-
-array-borrow-prefix-room : tie.Need-array-borrow-prefix-room
-array-borrow-prefix-room c = search needs
-
-slice-aggregate-analyse-on : tie.Need-slice-aggregate-analyse-on
-slice-aggregate-analyse-on c = search needs
-
-analyse-on-requires : tie.Need-analyse-on-requires
-analyse-on-requires c κs = search needs
-
 returns : tie.Need-returns
+unfolding analyse
 returns c =
-    let s = c .before .before .before in
-    let e = s .before .before .before .rest .ensures in
-    let l = lends (s .before .before .samples-room .ensures) e (s .count-samples .ensures) in
-    c .before .analyse-on .ensures .0 ∙ (λ j. analyseOn (s .before .before .before .before .before .args .channel) (tab (l .long j) (sampleOf (e j))) (pastSamples (e j)))
+    let s = c .before .before .before .before in
+    let a = s .before .before .before .before .before .args in
+    let f = s .before .before .before .frame in
+    let e = c .before .before .rest2 .ensures ∙ ap (drop 2) (c .before .before .before .past-samples .ensures ∙ ap pastSamples (s .rest .ensures)) in
+    ap (analysed (f .result .channel)) (c .both .ensures ∙ ap (both (f .result .answer)) (c .before .measure-after .ensures))
+    ∙ (λ j. let r = f .ensures .0 j in analysed (r .channel) (both (r .answer) (measureAfter (a .channel .config) (r .answer) (e j))))
 
-pub analyse-spec : {M : Type 1} → statement M
-analyse-spec =
+-- the needs without a name, for any answer: a wrong one hides none of them
+safe : tie.Need-returns → {M : Type 1} → statement M
+safe returns =
     tie.close
     (tie.spec
-    rest-requires
-    samples-room-requires
-    slice-aggregate-count-samples
-    count-samples-requires
-    array-borrow-prefix-room
-    slice-aggregate-analyse-on
-    analyse-on-requires
+    (λ c κs. search needs)
+    (λ c κs. search needs)
+    (λ c κs. search needs)
+    (λ c κs. search needs)
+    (λ c κs. c .before .before .before .before .before .frame .ensures .1)
+    (λ c κs. search needs)
     returns)
+
+pub analyse-spec : {M : Type 1} → statement M
+analyse-spec = safe returns

@@ -5,9 +5,9 @@ use lib.Ieee.{Float}
 use lib.ListN.{length, set}
 use Rattle.laws.specs.Lists.{tab}
 use Rattle.call_log.specs.Log.{floatOf}
-use Rattle.call_text.specs.declared.Extra.the-variants.{Band}
+use Rattle.call_text.specs.declared.Extra.the-variants.{Nothing, Band}
 use borrow.Author.Needs.{needs}
-use Rattle.call_made.specs.Made.{one, answerOf}
+use Rattle.call_made.specs.Made.{one}
 use Rattle.call_made.proofs.Answers.{told-is}
 use Rattle.call_made.proofs.loudest_on.Statement.{statement}
 use Rattle.call_made.proofs.loudest_on.Tie as tie
@@ -42,7 +42,7 @@ returns c =
     let f = c .before .before .before .before .before .before .before .before in
     let read = f .floats .ensures ∙ (λ j. tab (length (f .before .before .before .before .before .args .energies .now)) (floatOf (f .before .before .rest .ensures j))) in (
       c .one-area .ensures
-          ∙ ap (λ (x : List Float). one (h .result .number) (h .result .index) x 0) (c .before .before .before .area .ensures .0)
+          ∙ ap (λ (x : List Float). one (h .result .number) (h .result .index) Nothing x 0) (c .before .before .before .area .ensures .0)
           ∙ told-is (h .result) (h .ensures) read (c .before .enum-told .given .1),
       read,
     )
@@ -50,8 +50,8 @@ returns c =
 array-write-x : tie.Need-array-write-x
 array-write-x c = search needs
 
-area-requires-2 : tie.Need-area-requires-2
-area-requires-2 c κs = search needs
+one-area-requires-2 : tie.Need-one-area-requires-2
+one-area-requires-2 c κs = search needs
 
 same-length-2 : tie.Need-same-length-2
 same-length-2 c = search needs
@@ -62,7 +62,8 @@ returns-2 c =
     let f = c .before .before .before .before .before .before .before .before .before in
     let found = c .before .before .found .given in
     let read = f .floats .ensures ∙ (λ j. tab (length (f .before .before .before .before .before .args .energies .now)) (floatOf (f .before .before .rest .ensures j))) in (
-      (λ j. answerOf (h .result .number) (h .result .index) (Band (found .0 .0)) (set (c .before .before .before .before .area .ensures .0 j) 0 (found .0 .1 .0)) 1 (c .area2 .ensures .0 j) 0)
+      c .one-area2 .ensures
+          ∙ ap (λ (x : List Float). one (h .result .number) (h .result .index) (Band (found .0 .0)) (set x 0 (found .0 .1 .0)) 1) (c .before .before .before .before .area .ensures .0)
           ∙ told-is (h .result) (h .ensures) read (found .1),
       read,
     )
@@ -81,6 +82,6 @@ loudest-on-spec =
     same-length
     returns
     array-write-x
-    area-requires-2
+    one-area-requires-2
     same-length-2
     returns-2)

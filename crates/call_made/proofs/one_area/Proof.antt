@@ -3,7 +3,6 @@ use mathlib.Core.Path.{ap}
 use mathlib.Core.List.{List}
 use lib.Ieee.{Float}
 use borrow.Author.Needs.{needs}
-use Rattle.call_text.specs.declared.Extra.the-variants.{Nothing}
 use Rattle.call_made.specs.Made.{answerOf}
 use Rattle.call_made.proofs.one_area.Statement.{statement}
 use Rattle.call_made.proofs.one_area.Tie as tie
@@ -11,7 +10,7 @@ use Rattle.call_made.proofs.one_area.Tie as tie
 returns : tie.Need-returns
 returns c =
     let a = c .before .args in
-    ap (λ (y : List Float). answerOf (a .number) (a .index) Nothing (a .x) (a .m) y 0) (c .area .ensures .0)
+    ap (λ (y : List Float). answerOf (a .number) (a .index) (a .extra) (a .x) (a .m) y 0) (c .area .ensures .0)
 
 pub one-area-spec : {M : Type 1} → statement M
 one-area-spec = tie.close (tie.spec (λ c κs. search needs) returns)

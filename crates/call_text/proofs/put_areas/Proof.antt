@@ -1,6 +1,6 @@
 -- `call_text::put_areas` meets its contract: each arm writes the lines of its kind. Assumes nothing.
 use mathlib.Core.Path.{_≡_, ap, sym, _∙_}
-use mathlib.Core.List.{List, []}
+use mathlib.Core.List.{List}
 use Prim.Native.Nat.{ℕ}
 use lib.Ieee.{Float}
 use borrow.Author.Tests.{ne-eqb}
@@ -41,13 +41,25 @@ returns-5 c =
 
 returns-6 : tie.Need-returns-6
 returns-6 c =
+    let a = c .before .before .before .before .before .before .before .before .before .args in
+    c .before .before .put-area3 .ensures ∙ of-kind (page (a .out .now) (a .at)) (a .x .now) (a .y .now) (c .before .before .before .before .before .match .keys6)
+
+returns-7 : tie.Need-returns-7
+returns-7 c =
+    let a = c .before .before .before .before .before .before .before .before .before .args in
+    c .before .before .put-area4 .ensures ∙ of-kind (page (a .out .now) (a .at)) (a .x .now) (a .y .now) (c .before .before .before .before .before .match .keys7)
+
+returns-8 : tie.Need-returns-8
+returns-8 c =
     let a = c .before .before .before .before .args in
     let r = c .match .rest in
     let k = a .kind in
-    simp (ne-eqb k 2 (r .0 .0 .0 .0 .1), ne-eqb k 4 (r .0 .0 .0 .1), ne-eqb k 5 (r .0 .0 .1), ne-eqb k 6 (r .0 .1), ne-eqb k 7 (r .1)) (nothing (page (a .out .now) (a .at)))
+    simp (ne-eqb k 2 (r .0 .0 .0 .0 .0 .0 .1), ne-eqb k 4 (r .0 .0 .0 .0 .0 .1), ne-eqb k 5 (r .0 .0 .0 .0 .1), ne-eqb k 6 (r .0 .0 .0 .1), ne-eqb k 7 (r .0 .0 .1), ne-eqb k 11 (r .0 .1), ne-eqb k 12 (r .1)) (nothing (page (a .out .now) (a .at)))
 
-pub put-areas-spec : {M : Type 1} → statement M
-put-areas-spec =
+-- the needs without a name, for any answer: a wrong one hides none of them
+safe : tie.Need-returns → tie.Need-returns-2 → tie.Need-returns-3 → tie.Need-returns-4 → tie.Need-returns-5 → tie.Need-returns-6 → tie.Need-returns-7 → tie.Need-returns-8
+    → {M : Type 1} → statement M
+safe returns returns-2 returns-3 returns-4 returns-5 returns-6 returns-7 returns-8 =
     tie.close
     (tie.spec
     (λ c. search needs)
@@ -62,6 +74,10 @@ put-areas-spec =
     (λ c κs. search needs)
     (λ c κs. search needs)
     (λ c. search needs)
+    (λ c κs. search needs)
+    (λ c. search needs)
+    (λ c κs. search needs)
+    (λ c. search needs)
     returns
     (λ c. search needs)
     returns-2
@@ -71,4 +87,11 @@ put-areas-spec =
     returns-4
     (λ c. search needs)
     returns-5
-    returns-6)
+    (λ c. search needs)
+    returns-6
+    (λ c. search needs)
+    returns-7
+    returns-8)
+
+pub put-areas-spec : {M : Type 1} → statement M
+put-areas-spec = safe returns returns-2 returns-3 returns-4 returns-5 returns-6 returns-7 returns-8
