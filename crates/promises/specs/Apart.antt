@@ -67,9 +67,9 @@ Never6 c l = (e : List Float) → measures c (measurement.lent l e) .number ≡ 
 abbrev pub valued : ℕ → Option (List ℤ) → List ℤ → Given
 valued c f x = let l = value c f x .lines in record { number = refusals.accepted; index = 0; flag = flagOf c (energiesOf c l); lines = l; energies = energiesOf c l }
 
--- sixty lines for a measurement at configuration 0: zero but lines 7 and 20 with the bits b and d; and a room of n energies, all 1.0
-abbrev pub loud : ℕ → ℕ → ℕ → measurement.Lent
-loud b d n = measurement.lent (replicate 7 zero32 ++ (ofBits binary32 b ∷ replicate 12 zero32 ++ (ofBits binary32 d ∷ replicate 39 zero32))) (replicate n (ofBits binary32 0x3f800000))
+-- sixty lines for a measurement at configuration 0: zero but lines 7 and 20 with the bits b; and a room of n energies, all 1.0
+abbrev pub loud : ℕ → ℕ → measurement.Lent
+loud b n = measurement.lent (replicate 7 zero32 ++ (ofBits binary32 b ∷ replicate 12 zero32 ++ (ofBits binary32 b ∷ replicate 39 zero32))) (replicate n (ofBits binary32 0x3f800000))
 
 -- what a measurement gives beside a refusal
 abbrev pub refusedBy : ℕ → ℕ → measurement.Lent → measurement.Given
@@ -108,10 +108,10 @@ pub record Apart : Type 0 where
       → inTurn (after analysis a (frame f ∷ qs)) x .0 .number ≡ refusals.accepted → inTurn (after analysis b (frame g ∷ rs)) y .0 .number ≡ refusals.accepted
       → inTurn (after analysis a (frame f ∷ qs)) x .0 ≡ inTurn (after analysis b (frame g ∷ rs)) y .0
   -- "6 now also applies to the second call's lines, tested last", on each side of its edges. Two lines of 2^60 pass.
-  pub at-the-bound : measures 0 (loud 0x5d800000 0x5d800000 60) .number ≡ refusals.accepted
+  pub at-the-bound : measures 0 (loud 0x5d800000 60) .number ≡ refusals.accepted
   -- One bit more in two lines: 6, with the first of them, and the energies' room as it was.
-  pub above-it : measures 0 (loud 0x5d800001 0x5d800001 60) ≡ refusedBy refusals.badValue 7 (loud 0x5d800001 0x5d800001 60)
+  pub above-it : measures 0 (loud 0x5d800001 60) ≡ refusedBy refusals.badValue 7 (loud 0x5d800001 60)
   -- The same with a room that is one short: 5.
-  pub tested-last : measures 0 (loud 0x5d800001 0x5d800001 59) ≡ refusedBy refusals.badEnergies 0 (loud 0x5d800001 0x5d800001 59)
+  pub tested-last : measures 0 (loud 0x5d800001 59) ≡ refusedBy refusals.badEnergies 0 (loud 0x5d800001 59)
   -- Zero lines, in a room of energies that would be flagged: no flag. The flag is of the energies measured.
   pub own-flag : measures 0 (measurement.lent (replicate 60 zero32) (edge 0 0x41f00001)) .flag ≡ false
