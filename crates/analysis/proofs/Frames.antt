@@ -1,15 +1,15 @@
 -- What `cleared` and `frames` say, case by case, as the code's tests have it. Assumes nothing.
-use mathlib.Core.Path.{_≡_, refl, sym, ap, subst, _∙_}
-use mathlib.Core.Bool.{Bool, true, false, not, cond}
+use mathlib.Core.Path.{_≡_, refl, sym, ap, _∙_}
+use mathlib.Core.Bool.{Bool, true, false, not}
 use mathlib.Core.List.{List}
 use Prim.Native.Nat.{ℕ, zero, suc}
-use native.Mathlib.Omega.{arith}
-use lib.Dec.{T, eqb}
+use lib.Dec.{T, eqb, eqb→eq}
 use lib.IntN.{ℤ}
 use lib.ListN.{length}
 use lib.Ieee.{Float}
-use borrow.Author.Tests.{not-true, not-false, eq-eqb, ne-eqb, eqb-true}
+use borrow.Author.Tests.{not-true, not-false, eq-eqb, ne-eqb}
 use Rattle.config.specs.Config.{valid, nf}
+use Rattle.config.proofs.Verdicts.{went-on}
 use Rattle.analysis.specs.declared.Channel.{Channel}
 use Rattle.analysis_lines.specs.Lines.{linesOf}
 use Rattle.analysis.specs.Analysis.{keptOf, channelOf, held, clearing, cleared, Lent, Given, number, accepted, framed, frames}
@@ -42,14 +42,11 @@ abbrev pub Passed : ℕ → Lent → Type 0
 Passed c x = T (valid c) × (length (x .input) ≡ nf c) × (length (x .lines) ≡ nf c)
 
 pub passed : (c : ℕ) (x : Lent) → number c x ≡ 0 → Passed c x
-passed c x = go (valid c) (eqb (length (x .input)) (nf c)) (eqb (length (x .lines)) (nf c)) refl refl refl
-  where
-    go : (p q r : Bool) → valid c ≡ p → eqb (length (x .input)) (nf c) ≡ q → eqb (length (x .lines)) (nf c) ≡ r
-        → _≡_ {A = ℕ} (cond (not p) 1 (cond (not q) 3 (cond (not r) 4 0))) 0 → Passed c x
-    go true true true p q r e = (subst T (sym p) tt, eqb-true _ _ q, eqb-true _ _ r)
-    go true true false p q r e = absurd (omega arith)
-    go true false b p q r e = absurd (omega arith)
-    go false a b p q r e = absurd (omega arith)
+passed c x e =
+    let p = went-on (valid c) 0 e in
+    let q = went-on (eqb (length (x .input)) (nf c)) 2 (p .1) in
+    let r = went-on (eqb (length (x .lines)) (nf c)) 3 (q .1) in
+    (p .0, eqb→eq _ _ (q .0), eqb→eq _ _ (r .0))
 
 -- a refused call
 pub refused : (ch : Channel) (x : Lent) (n : ℕ) → n ≡ number (ch .config) x → (n ≡ 0 → ⊥) → _≡_ {A = Given × Channel} (frames ch x) (record { number = n; lines = x .lines }, ch)

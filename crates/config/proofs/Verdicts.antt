@@ -1,7 +1,8 @@
 -- What a number of acceptance says of the tests that gave it. Assumes nothing.
 use mathlib.Core.Path.{_≡_}
-use mathlib.Core.Bool.{Bool, true, false, cond, _&&_}
-use Prim.Native.Nat.{ℕ}
+use mathlib.Core.Bool.{Bool, true, false, not, cond, _&&_}
+use Prim.Native.Nat.{ℕ, suc}
+use native.Mathlib.Omega.{arith}
 use lib.Dec.{T, eqb, eqb→eq}
 use lib.Ieee.Fits.{and-l, and-r}
 use borrow.Author.Tests.{eq-eqb, ne-eqb}
@@ -10,6 +11,11 @@ use borrow.Author.Tests.{eq-eqb, ne-eqb}
 pub passed : (b : Bool) (v k : ℕ) → (k ≡ 0 → ⊥) → cond b v k ≡ 0 → T b × (v ≡ 0)
 passed true v k h e = (tt, e)
 passed false v k h e = absurd (h e)
+
+-- the same of a chain that has its refusals first
+pub went-on : (b : Bool) (k : ℕ) {v : ℕ} → cond (not b) (suc k) v ≡ 0 → T b × (v ≡ 0)
+went-on true k e = (tt, e)
+went-on false k e = absurd (omega arith)
 
 -- two lengths tested together
 pub both-are : (a b n : ℕ) → T (eqb a n && eqb b n) → (a ≡ n) × (b ≡ n)

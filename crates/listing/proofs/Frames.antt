@@ -12,11 +12,11 @@ use Rattle.config.specs.Config.{nf, nb}
 use Rattle.analysis.specs.declared.Channel.{Channel}
 use Rattle.analysis.specs.declared.Framed.{Framed}
 use Rattle.analysis.specs.Analysis.{Given, frames, lent, outcome}
-use Rattle.measurement.specs.declared.Measured.{Measured as Gauged}
+use Rattle.measurement.specs.declared.Measured.{Measured}
 use Rattle.measurement.specs.Measurement as ms
 use Rattle.loudest.specs.declared.Heard.{Heard}
 use Rattle.loudest.specs.Loudest.{heard}
-use Rattle.listing.specs.declared.frame.Measured.{Measured}
+use Rattle.listing.specs.declared.frame.Listened.{Listened}
 use Rattle.listing.specs.Listing.{zeros, framed, measured, listened}
 
 take-replicate : {A : Type 0} (n m : ℕ) (a : A) → n ≤ m → take n (replicate m a) ≡ replicate n a
@@ -35,19 +35,21 @@ module _ {n m k : ℕ} {l : List Float} (p : l ≡ zeros m) (q : n ≡ k) (h : k
   pub part-is : take n l ≡ zeros k
   part-is = ap₂ take q p ∙ take-replicate k m (ofBits binary32 0) h
 
-abbrev told : Given × Channel → ms.Given → Measured
+abbrev told : Given × Channel → ms.Given → Listened
 told g m = record { flag = m .flag; loudest = heard (m .energies) .loudest; channel = g .1 }
 
-abbrev answer : Framed → Gauged → Heard → Measured
+abbrev answer : Framed → Measured → Heard → Listened
 answer r m h = record { flag = m .flag; loudest = h .loudest; channel = r .channel }
 
 module _ (ch : Channel) (x : List ℤ) where
   -- l is lent to the frame call and comes back as l', e to the measurement and comes back as e'
-  pub listened-is : (l l' e e' : List Float) (r : Framed) (m : Gauged) (h : Heard)
+  pub listened-is : (l l' e e' : List Float) (r : Framed) (m : Measured) (h : Heard)
       → l ≡ zeros (nf (ch .config)) → e ≡ zeros (nb (ch .config))
-      → frames ch (lent x l) ≡ outcome r l' → ms.outcome m e' ≡ ms.measures (ch .config) (ms.lent l' e) → h ≡ heard e' → answer r m h ≡ listened ch x
+      → frames ch (lent x l) ≡ outcome r l' → ms.outcome m e' ≡ ms.measures (ch .config) (ms.lent l' e) → h ≡ heard e'
+      → (answer r m h ≡ listened ch x) × (l' ≡ framed ch x .0 .lines) × (e' ≡ measured ch x .energies)
   unfolding listened
   listened-is l l' e e' r m h p q f g k =
       let f' : outcome r l' ≡ framed ch x = sym f ∙ ap (λ (a : List Float). frames ch (lent x a)) p in
-      let g' : ms.outcome m e' ≡ measured ch x = g ∙ ap₂ (λ (a b : List Float). ms.measures (ch .config) (ms.lent a b)) (ap (λ (y : Given × Channel). y .0 .lines) f') q in
-      ap (answer r m) k ∙ ap₂ told f' g'
+      let s : l' ≡ framed ch x .0 .lines = ap (λ (y : Given × Channel). y .0 .lines) f' in
+      let g' : ms.outcome m e' ≡ measured ch x = g ∙ ap₂ (λ (a b : List Float). ms.measures (ch .config) (ms.lent a b)) s q in
+      (ap (answer r m) k ∙ ap₂ told f' g', s, ap (λ (y : ms.Given). y .energies) g')

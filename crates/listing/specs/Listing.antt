@@ -14,7 +14,7 @@ use Rattle.frame_file.specs.declared.Header.the-variants.{Good, Short, Unmarked
 use Rattle.frame_file.specs.declared.Record.{Record}
 use Rattle.frame_file.specs.declared.Record.the-variants.{Frame, End, Cut, Astray}
 use Rattle.frame_file.specs.File.{lmf, headerOf, headerNumber, recordNumber, Contents, contents}
-use Rattle.listing.specs.declared.frame.Measured.{Measured}
+use Rattle.listing.specs.declared.frame.Listened.{Listened}
 use Rattle.listing.specs.Text.{firstLine, frameLine, endLine, refusedLine}
 
 -- ---- a frame x on the channel ch
@@ -30,11 +30,11 @@ abbrev pub measured : Channel → List ℤ → ms.Given
 measured ch x = ms.measures (ch .config) (ms.lent (framed ch x .0 .lines) (zeros (nb (ch .config))))
 
 -- the flag, the loudest band and the new channel; where the loudest band is refused the answer beside the refusal is quiet
-unfoldable pub listened : Channel → List ℤ → Measured
+unfoldable pub listened : Channel → List ℤ → Listened
 listened ch x = record { flag = measured ch x .flag; loudest = heard (measured ch x .energies) .loudest; channel = framed ch x .1 }
 
 -- the line of frame number n
-abbrev pub lineOf : ℕ → Measured → List ℕ
+abbrev pub lineOf : ℕ → Listened → List ℕ
 lineOf n m = frameLine n (m .flag) (m .loudest)
 
 -- the lines of frames, numbered from n on; each call is handed the channel as the last one gave it

@@ -16,7 +16,7 @@ use Rattle.frame_file.specs.File.{lmf, samples, headerOf, headerNumber, recordO
 use Rattle.listing.specs.declared.line.Text.{Text}
 use Rattle.listing.specs.declared.Lister.{Lister}
 use Rattle.listing.specs.declared.Stepped.{Stepped}
-use Rattle.listing.specs.declared.frame.Measured.{Measured}
+use Rattle.listing.specs.declared.frame.Listened.{Listened}
 use Rattle.listing.specs.Text.{firstLine, endLine, refusedLine}
 use Rattle.listing.specs.Listing.{listened, lineOf}
 
@@ -63,7 +63,7 @@ unfoldable pub counted : ℕ → ℕ
 counted n = cond (ltb n (2 ^ 64 - 1)) (n + 1) n
 
 -- a frame's line, and what is carried on
-abbrev pub framed : Lister → ℕ → Measured → Stepped
+abbrev pub framed : Lister → ℕ → Listened → Stepped
 framed l used m = told (lineOf (l .count) m) used (record { channel = m .channel; count = counted (l .count) })
 
 -- a record

@@ -9,7 +9,7 @@ ghost use Rattle.listing.specs.Listing.{zeros, listened};
 use analysis::Channel;
 use loudest::Loudest;
 
-pub struct Measured {
+pub struct Listened {
     pub flag: bool,
     pub loudest: Loudest,
     pub channel: Channel,
@@ -37,9 +37,10 @@ fn silence() -> [i16; 480]
 }
 
 // The lines of a frame, their measurement and the loudest of their bands, in the rooms lent.
-fn listen_in(channel: Channel, input: &[i16], lines: &mut [f32], energies: &mut [f32]) -> Measured
+fn listen_in(channel: Channel, input: &[i16], lines: &mut [f32], energies: &mut [f32]) -> Listened
     requires { ⌜ (now lines ≡ zeros (nf (channel .config))) × (now energies ≡ zeros (nb (channel .config))) ⌝ }
-    ensures { λ r. ⌜ r ≡ listened channel (now (input .entry)) ⌝ }
+    ensures { λ r. ⌜ (r ≡ listened channel (now (input .entry))) × (now (lines .exit) ≡ framed channel (now (input .entry)) .0 .lines)
+        × (now (energies .exit) ≡ measured channel (now (input .entry)) .energies) ⌝ }
 {
     let config = channel.config;
     let framed = channel.frame(input, lines);
@@ -47,7 +48,7 @@ fn listen_in(channel: Channel, input: &[i16], lines: &mut [f32], energies: &mut 
     let heard = loudest::loudest_band(energies);
     let loudest = heard.loudest;
     let next = framed.channel;
-    Measured {
+    Listened {
         flag: measured.flag,
         loudest,
         channel: next,
@@ -55,7 +56,7 @@ fn listen_in(channel: Channel, input: &[i16], lines: &mut [f32], energies: &mut 
 }
 
 // The same in rooms of its own.
-fn listen(channel: Channel, input: &[i16]) -> Measured
+fn listen(channel: Channel, input: &[i16]) -> Listened
     requires { ⌜ T (valid (channel .config)) ⌝ }
     ensures { λ r. ⌜ r ≡ listened channel (now (input .entry)) ⌝ }
 {
@@ -68,7 +69,7 @@ fn listen(channel: Channel, input: &[i16]) -> Measured
 }
 
 // Inner. The same of a whole record's bytes.
-pub fn listen_to(channel: Channel, bytes: &[u8]) -> Measured
+pub fn listen_to(channel: Channel, bytes: &[u8]) -> Listened
     requires { ⌜ T (valid (channel .config)) × (length (now bytes) ≡ frameBytes (channel .config)) ⌝ }
     ensures { λ r. ⌜ r ≡ listened channel (samples (nf (channel .config)) (now (bytes .entry))) ⌝ }
 {

@@ -1,10 +1,9 @@
 -- What `measures` says, case by case, as the code's tests have it. Assumes nothing.
 use mathlib.Core.Path.{_≡_, refl, sym, ap, subst, _∙_}
-use mathlib.Core.Bool.{Bool, true, false, not, cond}
+use mathlib.Core.Bool.{Bool, true, false, not}
 use mathlib.Core.List.{List}
 use Prim.Native.Nat.{ℕ, zero, suc, _≤_, _<_}
-use native.Mathlib.Omega.{arith}
-use lib.Dec.{T, eqb, ltb, eqb→eq}
+use lib.Dec.{T, eqb, eqb→eq}
 use lib.ListN.{length}
 use lib.Ieee.{Float}
 use borrow.Author.Tests.{not-true, not-false, eq-eqb, ne-eqb, lt-ltb, le-ltb}
@@ -12,6 +11,7 @@ use Rattle.laws.specs.Lists.{first}
 use Rattle.laws.specs.Passes.{passes6}
 use Rattle.config.specs.Config.{valid, nf, nb}
 use Rattle.config.specs.declared.Verdict.{Verdict}
+use Rattle.config.proofs.Verdicts.{went-on}
 use Rattle.measurement.specs.Measurement.{energiesOf, flagOf, Lent, Given, number, verdict, measured, measures}
 
 -- the verdict, from the tests one after the other; v is what the code's test of the configuration gave, k what its search gave
@@ -55,28 +55,13 @@ pub record Passed (c : ℕ) (x : Lent) : Type 0 where
   pub is-valid : T (valid c)
   pub lines-is : length (x .lines) ≡ nf c
   pub energies-is : length (x .energies) ≡ nb c
-  pub pass : T (not (ltb (first passes6 (x .lines)) (length (x .lines))))
 
 pub passed : (c : ℕ) (x : Lent) → number c x ≡ 0 → Passed c x
 passed c x e =
-    let p = later (valid c) _ 0 e in
-    let q = later (eqb (length (x .lines)) (nf c)) _ 2 (p .1) in
-    let r = later (eqb (length (x .energies)) (nb c)) _ 4 (q .1) in
-    record {
-      is-valid = p .0;
-      lines-is = eqb→eq _ _ (q .0);
-      energies-is = eqb→eq _ _ (r .0);
-      pass = last (ltb (first passes6 (x .lines)) (length (x .lines))) (r .1);
-    }
-  where
-    -- a test that was passed, and the number of those after it
-    later : (b : Bool) (m k : ℕ) → cond (not b) (suc k) m ≡ 0 → T b × (m ≡ 0)
-    later true m k e = (tt, e)
-    later false m k e = absurd (omega arith)
-
-    last : (b : Bool) → _≡_ {A = ℕ} (cond b 6 0) 0 → T (not b)
-    last true e = absurd (omega arith)
-    last false e = tt
+    let p = went-on (valid c) 0 e in
+    let q = went-on (eqb (length (x .lines)) (nf c)) 2 (p .1) in
+    let r = went-on (eqb (length (x .energies)) (nb c)) 4 (q .1) in
+    record { is-valid = p .0; lines-is = eqb→eq _ _ (q .0); energies-is = eqb→eq _ _ (r .0) }
 
 -- a call that is not refused, and what it has made
 pub made : (c : ℕ) (x : Lent) (v : Verdict) (f : Bool) (es : List Float) → v ≡ verdict (number c x) x → v .number ≡ 0

@@ -30,7 +30,7 @@ use Rattle.promises.specs.Sequence.{frame as call, fresh, after, recall,
 use Rattle.promises.specs.AnalysisChannel.{analysis}
 use Rattle.promises.specs.Combined as combined
 use Rattle.promises.specs.NoOverflow.{Sample}
-use Rattle.promises.specs.Apart.{Given, measured, joined, inTurn, old, Pass, Never6, Apart}
+use Rattle.promises.specs.Apart.{Given, second, joined, inTurn, aged, old, Pass, Never6, paired, Apart}
 use Rattle.promises.proofs.Law.{configured}
 use Rattle.promises.proofs.AnalysisLaw.{lawful, analysis-demand3}
 use Rattle.promises.proofs.NoOverflow.{accepted, from-clear, pass-each, all-pass}
@@ -48,22 +48,21 @@ by-number : (c : ℕ) (x : measurement.Lent) (n : ℕ) → measurement.number c 
 unfolding measures
 by-number c x n e = ap (λ (m : ℕ). measurement.measured m c x) e
 
+-- a chain of tests gives none of the numbers that are not in it
+apart-from : (n : ℕ) {i j k : ℕ} → (i ≡ n → ⊥) → (j ≡ n → ⊥) → (k ≡ n → ⊥) → (0 ≡ n → ⊥) → (p q r : Bool) → cond p i (cond q j (cond r k 0)) ≡ n → ⊥
+apart-from n f g h o true q r = f
+apart-from n f g h o false true r = g
+apart-from n f g h o false false true = h
+apart-from n f g h o false false false = o
+
 -- lines that pass are not refused by 6
 passing : (l : List Float) → Each (λ x. T (passes6 x)) l → ltb (first passes6 l) (length l) ≡ false
 passing l h = le-ltb _ _ (le-of-eq (all-pass l h))
 
 never-6 : (c : ℕ) (l e : List Float) → Pass c l → measures c (measurement.lent l e) .number ≡ 6 → ⊥
-never-6 c l e h n = go (not (valid c)) (not (eqb (length l) (nf c))) (not (eqb (length e) (nb c))) (rw (passing l h) at (sym (tells c (measurement.lent l e)) ∙ n))
-  where
-    go : (p q r : Bool) → _≡_ {A = ℕ} (cond p 1 (cond q 3 (cond r 5 0))) 6 → ⊥
-    go true q r e = omega arith
-    go false true r e = omega arith
-    go false false true e = omega arith
-    go false false false e = omega arith
-
--- what an accepted pair gives, by its lines
-abbrev paired : ℕ → List Float → Given
-paired c l = joined l (measurement.accepted c l)
+never-6 c l e h n =
+    apart-from 6 (λ z. omega arith) (λ z. omega arith) (λ z. omega arith) (λ z. omega arith) (not (valid c)) (not (eqb (length l) (nf c))) (not (eqb (length e) (nb c)))
+    (rw (passing l h) at (sym (tells c (measurement.lent l e)) ∙ n))
 
 -- ---- the pair, by the number of its first call
 module _ (a : Channel) (x : combined.Lent) where
@@ -81,10 +80,11 @@ module _ (a : Channel) (x : combined.Lent) where
   next = measurement.lent lines (x .energies)
 
   abbrev turned : ℕ → Given × Channel
-  turned n = let f = framed n a own in (joined (f .0 .lines) (measured (f .0 .number) c (measurement.lent (f .0 .lines) (x .energies))), f .1)
+  turned n = let f = framed n a own in (joined (f .0 .lines) (second (f .0 .number) c (measurement.lent (f .0 .lines) (x .energies))), f .1)
 
-  abbrev aged : ℕ → Given × Channel
-  aged n = let g = combined.framed n a x in (record { number = g .0 .number; index = 0; flag = g .0 .flag; lines = g .0 .lines; energies = g .0 .energies }, g .1)
+  -- the combined call, by its number
+  abbrev before : ℕ → Given × Channel
+  before n = aged (combined.framed n a x)
 
   -- the combined call's number: the first call's, and where that is 0 the test of the energies' length, which came last
   abbrev fits : ℕ
@@ -103,9 +103,9 @@ module _ (a : Channel) (x : combined.Lent) where
       go false false true = refl
       go false false false = refl
 
-  old-is : old a x ≡ aged (then (number c own))
+  old-is : old a x ≡ before (then (number c own))
   unfolding combined.frames
-  old-is = ap aged combined-is
+  old-is = ap before combined-is
 
   -- where the first call is accepted, the second's configuration and lines are as they have to be
   second-number : number c own ≡ 0 → measurement.number c next ≡ cond (not (eqb (length (x .energies)) (nb c))) 5 (cond (ltb (first passes6 lines) (length lines)) 6 0)
@@ -118,27 +118,30 @@ module _ (a : Channel) (x : combined.Lent) where
   unfolding frames
   in-turn h = go (number c own) h ∙ sym old-is
     where
-      go : (n : ℕ) → turned n .0 .number ≡ 0 → turned n ≡ aged (then n)
+      go : (n : ℕ) → turned n .0 .number ≡ 0 → turned n ≡ before (then n)
       go zero h =
           let e = sym (tells c next) ∙ h in
           ap (λ (m : measurement.Given). (joined lines m, framed 0 a own .1)) (by-number c next 0 e)
-          ∙ ap aged (sym (ap (λ (b : Bool). cond (not b) 5 0) (eq-eqb _ _ (verdicts.passed c next e .energies-is))))
+          ∙ ap before (sym (ap (λ (b : Bool). cond (not b) 5 0) (eq-eqb _ _ (verdicts.passed c next e .energies-is))))
       go (suc n) h = absurd (omega arith)
 
   first-refused : (frames a own .0 .number ≡ 0 → ⊥) → inTurn a x ≡ old a x
   unfolding frames
   first-refused h = go (number c own) h ∙ sym old-is
     where
-      go : (n : ℕ) → (framed n a own .0 .number ≡ 0 → ⊥) → turned n ≡ aged (then n)
+      go : (n : ℕ) → (framed n a own .0 .number ≡ 0 → ⊥) → turned n ≡ before (then n)
       go zero h = absurd (h refl)
       go (suc n) h = refl
 
-  aged-number : (n : ℕ) → aged n .0 .number ≡ n
-  aged-number zero = refl
-  aged-number (suc n) = refl
+  before-number : (n : ℕ) → before n .0 .number ≡ n
+  before-number zero = refl
+  before-number (suc n) = refl
 
   old-number : old a x .0 .number ≡ then (number c own)
-  old-number = ap (λ (g : Given × Channel). g .0 .number) old-is ∙ aged-number (then (number c own))
+  old-number = ap (λ (g : Given × Channel). g .0 .number) old-is ∙ before-number (then (number c own))
+
+  not-5 : number c own ≡ 5 → ⊥
+  not-5 = apart-from 5 (λ z. omega arith) (λ z. omega arith) (λ z. omega arith) (λ z. omega arith) (not (valid c)) (not (eqb (length (x .input)) (nf c))) (not (eqb (length (x .lines)) (nf c)))
 
   second-refused : old a x .0 .number ≡ 5
       → inTurn a x ≡ (record { number = 5; index = 0; flag = false; lines = lines; energies = x .energies }, framed 0 a own .1)
@@ -149,15 +152,9 @@ module _ (a : Channel) (x : combined.Lent) where
       late true m e = refl
       late false m e = absurd (omega arith)
 
-      not-5 : (p q r : Bool) → _≡_ {A = ℕ} (cond p 1 (cond q 3 (cond r 4 0))) 5 → ⊥
-      not-5 true q r e = omega arith
-      not-5 false true r e = omega arith
-      not-5 false false true e = omega arith
-      not-5 false false false e = omega arith
-
       go : (n : ℕ) → number c own ≡ n → then n ≡ 5 → turned n ≡ (record { number = 5; index = 0; flag = false; lines = lines; energies = x .energies }, framed 0 a own .1)
       go zero e h = ap (λ (m : measurement.Given). (joined lines m, framed 0 a own .1)) (by-number c next 5 (second-number e ∙ late (not (eqb (length (x .energies)) (nb c))) (cond (ltb (first passes6 lines) (length lines)) 6 0) h))
-      go (suc n) e h = absurd (not-5 (not (valid c)) (not (eqb (length (x .input)) (nf c))) (not (eqb (length (x .lines)) (nf c))) (e ∙ h))
+      go (suc n) e h = absurd (not-5 (e ∙ h))
 
   accepts-alike : Each Sample (a .samples) → Each Sample (x .input) → inTurn a x .0 .number ≡ old a x .0 .number
   unfolding frames

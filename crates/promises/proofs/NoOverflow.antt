@@ -79,7 +79,7 @@ frame-held a x s h = go (number (a .config) x)
     go (suc n) = h
 
 -- ---- analysis: of the lines that a call on such a channel gives, where it is not refused
-abbrev pub Taken : (ℕ → List Float → Type 0) → Type 0
+abbrev Taken : (ℕ → List Float → Type 0) → Type 0
 Taken P = (a : Channel) → T (valid (a .config)) → Held a → (x : List ℤ) → Each Sample x → P (a .config) (linesOf (a .config) (held a) x)
 
 pub accepted : (P : ℕ → List Float → Type 0) → Taken P → OnAny P
@@ -93,7 +93,7 @@ accepted P h a s x i e = go (number (a .config) x) refl e
 pub from-clear : (P : ℕ → List Float → Type 0) → OnAny P → FromClear P
 from-clear P h c a e qs s x i n = h (after analysis a qs) (kept analysis Held Sampled clear-held frame-held c a e s) x i n
 
-pub lines-each : Taken Lines
+lines-each : Taken Lines
 unfolding linesOf
 lines-each a v s x i = lines-bound (a .config) v _ (buffer-each (a .config) (past-each a s) i)
 

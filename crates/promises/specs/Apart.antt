@@ -17,7 +17,7 @@ use Rattle.analysis.specs.declared.Channel.{Channel}
 use Rattle.analysis_lines.specs.Lines.{linesOf}
 use Rattle.analysis.specs.Analysis.{Lent, frames, held, keptOf, channelOf, lent}
 use Rattle.measurement.specs.Measurement as measurement
-use Rattle.measurement.specs.Measurement.{energiesOf, flagOf, measures}
+use Rattle.measurement.specs.Measurement.{measures}
 use Rattle.bounds.specs.Within.{Each}
 use Rattle.promises.specs.Sequence.{Call, frame, fresh, clears, accepts, after, recall, Shared}
 use Rattle.promises.specs.AnalysisChannel.{analysis, value}
@@ -34,10 +34,14 @@ pub record Given : Type 0 where
   pub lines : List Float
   pub energies : List Float
 
+-- what a measurement gives beside a refusal
+abbrev pub refusedBy : ℕ → ℕ → measurement.Lent → measurement.Given
+refusedBy n i x = record { number = n; index = i; flag = false; energies = x .energies }
+
 -- the second call, by the number of the first: it is made where that was accepted
-abbrev pub measured : ℕ → ℕ → measurement.Lent → measurement.Given
-measured zero c x = measures c x
-measured (suc n) c x = record { number = suc n; index = 0; flag = false; energies = x .energies }
+abbrev pub second : ℕ → ℕ → measurement.Lent → measurement.Given
+second zero c x = measures c x
+second (suc n) c x = refusedBy (suc n) 0 x
 
 -- of the first call the lines, of the second all else
 abbrev pub joined : List Float → measurement.Given → Given
@@ -47,13 +51,14 @@ joined l m = record { number = m .number; index = m .index; flag = m .flag; line
 abbrev pub inTurn : Channel → combined.Lent → Given × Channel
 inTurn a x =
     let f = frames a (lent (x .input) (x .lines)) in
-    (joined (f .0 .lines) (measured (f .0 .number) (a .config) (measurement.lent (f .0 .lines) (x .energies))), f .1)
+    (joined (f .0 .lines) (second (f .0 .number) (a .config) (measurement.lent (f .0 .lines) (x .energies))), f .1)
 
 -- "the old answer", which had no index
+abbrev pub aged : combined.Given × Channel → Given × Channel
+aged g = (record { number = g .0 .number; index = 0; flag = g .0 .flag; lines = g .0 .lines; energies = g .0 .energies }, g .1)
+
 abbrev pub old : Channel → combined.Lent → Given × Channel
-old a x =
-    let g = combined.frames a x in
-    (record { number = g .0 .number; index = 0; flag = g .0 .flag; lines = g .0 .lines; energies = g .0 .energies }, g .1)
+old a x = aged (combined.frames a x)
 
 -- all of some lines pass 6, at any configuration
 abbrev pub Pass : ℕ → List Float → Type 0
@@ -63,17 +68,17 @@ Pass c l = Each (λ x. T (passes6 x)) l
 abbrev pub Never6 : ℕ → List Float → Type 0
 Never6 c l = (e : List Float) → measures c (measurement.lent l e) .number ≡ refusals.badValue → ⊥
 
+-- what an accepted pair gives, by its lines
+abbrev pub paired : ℕ → List Float → Given
+paired c l = joined l (measurement.accepted c l)
+
 -- THE DEFINITION's value of the pair on a configuration, the frame before and the frame: the value of its lines, and energies and flag of these
 abbrev pub valued : ℕ → Option (List ℤ) → List ℤ → Given
-valued c f x = let l = value c f x .lines in record { number = refusals.accepted; index = 0; flag = flagOf c (energiesOf c l); lines = l; energies = energiesOf c l }
+valued c f x = paired c (value c f x .lines)
 
 -- sixty lines for a measurement at configuration 0: zero but lines 7 and 20 with the bits b; and a room of n energies, all 1.0
 abbrev pub loud : ℕ → ℕ → measurement.Lent
 loud b n = measurement.lent (replicate 7 zero32 ++ (ofBits binary32 b ∷ replicate 12 zero32 ++ (ofBits binary32 b ∷ replicate 39 zero32))) (replicate n (ofBits binary32 0x3f800000))
-
--- what a measurement gives beside a refusal
-abbrev pub refusedBy : ℕ → ℕ → measurement.Lent → measurement.Given
-refusedBy n i x = record { number = n; index = i; flag = false; energies = x .energies }
 
 pub record Apart : Type 0 where
   -- "doing both in turn .. equals the old answer where both accept": number, flag, lines, energies, and the whole channel; of any channel and any frame.

@@ -3,7 +3,7 @@ use mathlib.Core.Path.{_≡_, refl, sym, ap, ap₂, _∙_}
 use Prim.Native.Nat.{ℕ}
 use lib.ListN.{length}
 use Rattle.listing.specs.declared.line.Text.{Text}
-use Rattle.listing.specs.declared.frame.Measured.{Measured}
+use Rattle.listing.specs.declared.frame.Listened.{Listened}
 use Rattle.listing.specs.declared.Lister.{Lister}
 use Rattle.listing.specs.declared.Stepped.{Stepped}
 use Rattle.listing.specs.Steps.{framed, counted}
@@ -11,7 +11,7 @@ use borrow.Author.Needs.{needs}
 use Rattle.listing.proofs.Lister.frame.Statement.{statement}
 use Rattle.listing.proofs.Lister.frame.Tie as tie
 
-abbrev made : ℕ → Measured → Text → ℕ → Stepped
+abbrev made : ℕ → Listened → Text → ℕ → Stepped
 made n m t k = record { text = t; used = n; lister = record { channel = m .channel; count = k } }
 
 listen-to-requires : tie.Need-listen-to-requires

@@ -22,6 +22,9 @@ listen-in-requires c κs =
     let s = sound _ (c .before .before .before .before .before .before .pre) in
     (part-is (c .before .before .before .lines .ensures) (c .before .before .before .before .before .nf .ensures) (s .nf-le), part-is (c .before .before .energies .ensures) (c .before .before .before .before .nb .ensures) (s .nb-le))
 
+returns : tie.Need-returns
+returns c = c .listen-in .ensures .0
+
 pub listen-spec : {M : Type 1} → statement M
 listen-spec =
     tie.close
@@ -35,4 +38,4 @@ listen-spec =
     array-borrow-prefix-energies
     slice-aggregate-listen-in-2
     listen-in-requires
-    (λ c. search needs))
+    returns)
