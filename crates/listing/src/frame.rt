@@ -5,7 +5,7 @@ ghost use lib.IntN.{pos};
 ghost use lib.ListN.{length, replicate};
 ghost use Rattle.config.specs.Config.{valid, nf, nb};
 ghost use Rattle.frame_file.specs.File.{samples, frameBytes};
-ghost use Rattle.listing.specs.Listing.{zeros, listened};
+ghost use Rattle.listing.specs.Listing.{zeros, framed, measured, listened};
 use analysis::Channel;
 use loudest::Loudest;
 

@@ -23,7 +23,7 @@ listen-in-requires c κs =
     (part-is (c .before .before .before .lines .ensures) (c .before .before .before .before .before .nf .ensures) (s .nf-le), part-is (c .before .before .energies .ensures) (c .before .before .before .before .nb .ensures) (s .nb-le))
 
 returns : tie.Need-returns
-returns c = c .listen-in .ensures .0
+returns c = c .before .before .listen-in .ensures .0
 
 pub listen-spec : {M : Type 1} → statement M
 listen-spec =
