@@ -79,16 +79,17 @@ pub extern "C" fn loamscarf_analysis_frame_at(
     analysis::frame_at(config, samples, input, lines)
 }
 
-// Entry. The energies of lines and their flag.
+// Entry. The energies and peaks of lines, and their flag.
 #[no_mangle]
 pub extern "C" fn loamscarf_measure(
     config: u8,
     lines: &[f32],
     energies: &mut [f32],
+    peaks: &mut [usize],
 ) -> measurement::Measured
-    ensures { λ r. ⌜ ms.outcome r (now (energies .exit)) ≡ ms.measures config (ms.lent (now (lines .entry)) (now (energies .entry))) ⌝ }
+    ensures { λ r. ⌜ ms.outcome r (now (energies .exit)) (now (peaks .exit)) ≡ ms.measures config (ms.lent (now (lines .entry)) (now (energies .entry)) (now (peaks .entry))) ⌝ }
 {
-    measurement::measure(config, lines, energies)
+    measurement::measure(config, lines, energies, peaks)
 }
 
 // Entry. A fresh synthesis channel.

@@ -25,9 +25,9 @@ zeros n = replicate n (ofBits binary32 0)
 abbrev pub framed : Channel → List ℤ → Given × Channel
 framed ch x = frames ch (lent x (zeros (nf (ch .config))))
 
--- the measurement of its lines at that configuration, with room for the energies
+-- the measurement of its lines at that configuration, with room for the energies and for the peaks, which the listing does not tell
 abbrev pub measured : Channel → List ℤ → ms.Given
-measured ch x = ms.measures (ch .config) (ms.lent (framed ch x .0 .lines) (zeros (nb (ch .config))))
+measured ch x = ms.measures (ch .config) (ms.lent (framed ch x .0 .lines) (zeros (nb (ch .config))) (replicate (nb (ch .config)) 0))
 
 -- the flag, the loudest band and the new channel; where the loudest band is refused the answer beside the refusal is quiet
 unfoldable pub listened : Channel → List ℤ → Listened

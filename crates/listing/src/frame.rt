@@ -29,6 +29,13 @@ fn energies() -> [f32; 64]
     [0.0; 64]
 }
 
+// Room for the peaks of any configuration, which nobody asks for here.
+fn peaks() -> [usize; 64]
+    ensures { λ r. ⌜ r ≡ replicate 64 0 ⌝ }
+{
+    [0usize; 64]
+}
+
 // Room for the samples of any configuration.
 fn silence() -> [i16; 480]
     ensures { λ r. ⌜ r ≡ replicate 480 (pos 0) ⌝ }
@@ -37,14 +44,20 @@ fn silence() -> [i16; 480]
 }
 
 // The lines of a frame, their measurement and the loudest of their bands, in the rooms lent.
-fn listen_in(channel: Channel, input: &[i16], lines: &mut [f32], energies: &mut [f32]) -> Listened
-    requires { ⌜ (now lines ≡ zeros (nf (channel .config))) × (now energies ≡ zeros (nb (channel .config))) ⌝ }
+fn listen_in(
+    channel: Channel,
+    input: &[i16],
+    lines: &mut [f32],
+    energies: &mut [f32],
+    peaks: &mut [usize],
+) -> Listened
+    requires { ⌜ (now lines ≡ zeros (nf (channel .config))) × (now energies ≡ zeros (nb (channel .config))) × (now peaks ≡ replicate (nb (channel .config)) 0) ⌝ }
     ensures { λ r. ⌜ (r ≡ listened channel (now (input .entry))) × (now (lines .exit) ≡ framed channel (now (input .entry)) .0 .lines)
-        × (now (energies .exit) ≡ measured channel (now (input .entry)) .energies) ⌝ }
+        × (now (energies .exit) ≡ measured channel (now (input .entry)) .energies) × (now (peaks .exit) ≡ measured channel (now (input .entry)) .peaks) ⌝ }
 {
     let config = channel.config;
     let framed = channel.frame(input, lines);
-    let measured = measurement::measure(config, lines, energies);
+    let measured = measurement::measure(config, lines, energies, peaks);
     let heard = loudest::loudest_band(energies);
     let loudest = heard.loudest;
     let next = framed.channel;
@@ -65,7 +78,14 @@ fn listen(channel: Channel, input: &[i16]) -> Listened
     let b = config::nb(config);
     let mut lines = lines();
     let mut energies = energies();
-    listen_in(channel, input, &mut lines[..n], &mut energies[..b])
+    let mut peaks = peaks();
+    listen_in(
+        channel,
+        input,
+        &mut lines[..n],
+        &mut energies[..b],
+        &mut peaks[..b],
+    )
 }
 
 // Inner. The same of a whole record's bytes.
