@@ -3,6 +3,8 @@ import itertools
 import re
 from collections import Counter, namedtuple
 
+import lmc
+
 Answer = namedtuple('Answer', 'kind number index extra areas')
 Difference = namedtuple('Difference', 'call area place ours rust apart')
 HEAD = re.compile(r'(\d+) (\d+) (\d+) (\d+) (\S+)')
@@ -23,7 +25,7 @@ def why_stopped(word, number):
     """What the last line of a text says of its log."""
     if word == 'stopped':
         return f'call {number} is cut, of an unknown kind or too long'
-    return {8: 'shorter than 5 bytes', 9: 'neither the mark LMC nor LMF', 10: 'not version 1'}.get(number, f'refused {number}')
+    return {8: 'shorter than 5 bytes', 9: 'neither the mark LMC nor LMF', 10: f'not version {lmc.VERSION}'}.get(number, f'refused {number}')
 
 
 def area_of(line):

@@ -16,7 +16,8 @@ def columns():
     return (list(map(int, column)) for column in zip(*rows('configs.txt'), strict=True))
 
 
-HEADER = b'LMC' + struct.pack('<H', 1)
+VERSION = 2
+HEADER = b'LMC' + struct.pack('<H', VERSION)
 _, DURATION, RATE, NF, Z, NE, NB, UPPER = columns()  # durations in microseconds, rates in Hz
 EDGES = [list(map(int, edges)) for _, *edges in rows('bands.txt')]
 SIZES = sorted({n // 2 for n in NF})
@@ -49,9 +50,9 @@ def clear_analysis(config):
     return bytes([1, config])
 
 
-def analyse(frame, lines, energies):
+def analyse(frame, lines, energies, peaks):
     """A frame to lines, and the measurement of these."""
-    return bytes([2]) + samples(frame) + struct.pack('<HH', lines, energies)
+    return bytes([2]) + samples(frame) + struct.pack('<HHH', lines, energies, peaks)
 
 
 def clear_synthesis(config):
@@ -90,5 +91,5 @@ def transform(frame, lines):
     return bytes([11]) + samples(frame) + struct.pack('<H', lines)
 
 
-def measure(config, lines, energies):
-    return bytes([12, config]) + floats(lines) + struct.pack('<H', energies)
+def measure(config, lines, energies, peaks):
+    return bytes([12, config]) + floats(lines) + struct.pack('<HH', energies, peaks)

@@ -27,7 +27,7 @@ def frames(data):
 
 def analysis_log(config, given):
     """A clear of the analysis channel, and each frame analysed."""
-    calls = [lmc.analyse(frame, lmc.NF[config], lmc.NB[config]) for frame in given]
+    calls = [lmc.analyse(frame, lmc.NF[config], lmc.NB[config], lmc.NB[config]) for frame in given]
     return lmc.HEADER + lmc.clear_analysis(config) + b''.join(calls)
 
 
@@ -43,6 +43,6 @@ def whole_log(config, given, lines):
     """Clears of both channels; then for each frame a call that analyses it and one that plays its first ne lines. Frame k is calls 2k + 2 and 2k + 3."""
     parts = [lmc.HEADER, lmc.clear_analysis(config), lmc.clear_synthesis(config)]
     for frame, bits in zip(given, lines, strict=True):
-        parts.append(lmc.analyse(frame, lmc.NF[config], lmc.NB[config]))
+        parts.append(lmc.analyse(frame, lmc.NF[config], lmc.NB[config], lmc.NB[config]))
         parts.append(lmc.synthesise(bits[:lmc.NE[config]], lmc.NF[config]))
     return b''.join(parts)

@@ -1,5 +1,5 @@
-"""The measurement call of document 02 §5, from the papers' text alone: its refusals in their order, and every operation rounded once to f32. And what a frame to
-lines answers, measured or not, but for the lines themselves.
+"""The measurement call of document 02 §5 and §12, from the papers' text alone: its refusals in their order, and every operation rounded once to f32. And what a
+frame to lines answers, measured or not, but for the lines themselves.
 
 f64 holds a product of two f32, and of their quotient and sum enough that rounding twice is rounding once."""
 import math
@@ -32,10 +32,19 @@ def total(values):
     return sum_so_far
 
 
+def bands(config):
+    """The first line of each band, and the line after its last."""
+    return list(zip(lmc.EDGES[config], lmc.EDGES[config][1:]))
+
+
 def energies(config, lines):
     """Of each band the squares of its lines, each divided by the band's width, added in line order."""
-    edges = lmc.EDGES[config]
-    return [total(rounded(rounded(x * x) / (high - low)) for x in lines[low:high]) for low, high in zip(edges, edges[1:])]
+    return [total(rounded(rounded(x * x) / (high - low)) for x in lines[low:high]) for low, high in bands(config)]
+
+
+def peaks(config, lines):
+    """Of each band the place in the frame of its line with the greatest square, of equals the first."""
+    return [max(range(low, high), key=lambda place: rounded(lines[place] * lines[place])) for low, high in bands(config)]
 
 
 def near_nyquist(config, found):
@@ -44,13 +53,13 @@ def near_nyquist(config, found):
     return lmc.RATE[config] <= 32000 and total(found[first:]) > rounded(30.0 * total(found[:first]))
 
 
-def refusal(config, patterns, room):
-    """The number and the index of lines by their bits, and energies of so many places."""
+def refusal(config, patterns, room, peak_room):
+    """The number and the index of lines by their bits, and energies and peaks of so many places."""
     if config >= len(lmc.NF):
         return 1, 0
     if len(patterns) != lmc.NF[config]:
         return 3, 0
-    if room != lmc.NB[config]:
+    if room != lmc.NB[config] or peak_room != lmc.NB[config]:
         return 5, 0
     failing = [place for place, pattern in enumerate(patterns) if pattern & 0x7FFFFFFF > LIMIT]
     return (6, failing[0]) if failing else (0, 0)
@@ -61,19 +70,26 @@ def untouched(room):
     return [f'{lmc.bits(k + 0.5):08x}' for k in range(room)]
 
 
-def answer(config, patterns, room):
+def unmeasured(room, peak_room):
+    """The areas of a measurement that was refused, or never made."""
+    return [('energies', untouched(room)), ('peaks', [str(k + 7) for k in range(peak_room)])]
+
+
+def answer(config, patterns, room, peak_room):
     """What the measurement answers."""
-    number, index = refusal(config, patterns, room)
+    number, index = refusal(config, patterns, room, peak_room)
     if number:
-        return answers.Answer(12, number, index, '0', [('energies', untouched(room))])
-    found = energies(config, [value(pattern) for pattern in patterns])
-    return answers.Answer(12, 0, 0, str(int(near_nyquist(config, found))), [('energies', [f'{lmc.bits(x):08x}' for x in found])])
+        return answers.Answer(12, number, index, '0', unmeasured(room, peak_room))
+    lines = [value(pattern) for pattern in patterns]
+    found = energies(config, lines)
+    areas = [('energies', [f'{lmc.bits(x):08x}' for x in found]), ('peaks', [str(place) for place in peaks(config, lines)])]
+    return answers.Answer(12, 0, 0, str(int(near_nyquist(config, found))), areas)
 
 
 def asked(call):
-    """What a call's bytes hand in: the configuration, the lines, and how many places the energies have."""
+    """What a call's bytes hand in: the configuration, the lines, and how many places the energies have and the peaks."""
     config, count = struct.unpack_from('<BH', call, 1)
-    return config, struct.unpack_from(f'<{count}I', call, 4), struct.unpack_from('<H', call, 4 + 4 * count)[0]
+    return (config, struct.unpack_from(f'<{count}I', call, 4), *struct.unpack_from('<HH', call, 4 + 4 * count))
 
 
 def of_call(call):
@@ -91,10 +107,10 @@ def frame_refusal(config, count, room):
 def of_frame(config, call, lines):
     """What a call of kind 2 or 11 answers on a channel of a configuration; where its frame is taken, with these lines."""
     kind, (count,) = call[0], struct.unpack_from('<H', call, 1)
-    room, *rooms = struct.unpack_from('<HH' if kind == 2 else '<H', call, 3 + 2 * count)
+    room, *rooms = struct.unpack_from('<HHH' if kind == 2 else '<H', call, 3 + 2 * count)
     number = frame_refusal(config, count, room)
     if number:
-        areas = [('lines', untouched(room)), *(('energies', untouched(more)) for more in rooms)]
+        areas = [('lines', untouched(room)), *(unmeasured(*rooms) if rooms else [])]
         return answers.Answer(kind, number, 0, '0' if kind == 2 else '-', areas)
     if kind == 11:
         return answers.Answer(kind, 0, 0, '-', [('lines', lines)])

@@ -1,12 +1,13 @@
 //! The bench's driver: calls of lc3-codec's code and of the port's static library, beside one another. It is built twice, on lc3-codec's own files and
 //! on their copy with the short frames, and knows the configurations of those that it is built on.
-//!   check                     compares the bits of ours, both ways, with lc3-codec's, and prints how many calls agree
+//!   check                     compares the bits of ours, both ways, with lc3-codec's, and our peaks with a plain search, and prints how many calls agree
 //!   count SIDE CALL CONFIG N  makes N calls and prints nothing: its instructions are what is counted
 //!   time CALL CONFIG          times all sides alternately, and prints the shortest time of a call of each, in nanoseconds, in the order below
 //!   stack SIDE CALL CONFIG    prints how many bytes of stack a call touches, a channel handed in by value included
 //! SIDE is port (the channel handed in and back by value), place (the channel where it is; a DCT or a measurement, which has none, is the same call) or rust.
 //! CALL is dct, analysis, synthesis or measure. Analysis is of ours two calls in turn, a frame to lines and the measurement of these, and of lc3-codec its `run`;
-//! measure is the second alone, of lc3-codec the two functions that `run` ends with. Buffers are made once and never cleared between calls.
+//! measure is the second alone, of lc3-codec the two functions that `run` ends with. lc3-codec has no peaks: they are searched where bits are compared, and not
+//! where a call is counted or timed. Buffers are made once and never cleared between calls.
 
 mod port;
 
@@ -75,6 +76,12 @@ fn bits(values: &[f32]) -> impl Iterator<Item = u32> + '_ {
     values.iter().map(|x| x.to_bits())
 }
 
+/// Of each band the first line with the greatest square, by a plain search.
+fn searched(edges: &[usize], lines: &[f32]) -> Vec<usize> {
+    let first = |band: &[usize]| (band[0]..band[1]).fold(band[0], |best, k| if lines[k] * lines[k] > lines[best] * lines[best] { k } else { best });
+    edges.windows(2).map(first).collect()
+}
+
 struct RustDct(DiscreteCosTransformIv<'static>, Vec<f32>);
 
 impl Call for RustDct {
@@ -109,20 +116,23 @@ struct Frame {
     input: Vec<i16>,
     lines: Vec<f32>,
     energies: Vec<f32>,
+    peaks: Vec<usize>,
     told: port::Measured,
 }
 
 impl Frame {
     fn new(c: &Lc3Config) -> Self {
-        Frame { input: vec![0; c.nf], lines: vec![0.0; c.nf], energies: vec![0.0; c.nb], told: Default::default() }
+        Frame { input: vec![0; c.nf], lines: vec![0.0; c.nf], energies: vec![0.0; c.nb], peaks: vec![0; c.nb], told: Default::default() }
     }
     fn measure(&mut self, config: u8) {
-        let (l, e) = (&self.lines, &mut self.energies);
-        self.told = unsafe { port::loamscarf_measure(config, l.as_ptr(), l.len(), e.as_mut_ptr(), e.len()) };
+        let (l, e, p) = (&self.lines, &mut self.energies, &mut self.peaks);
+        self.told = unsafe { port::loamscarf_measure(config, l.as_ptr(), l.len(), e.as_mut_ptr(), e.len(), p.as_mut_ptr(), p.len()) };
     }
-    fn bits(&self) -> Vec<u32> {
+    /// The peaks are the port's own, or those that were searched in its stead.
+    fn bits(&self, peaks: &[usize]) -> Vec<u32> {
         assert_eq!((self.told.number, self.told.index), (0, 0), "the port refuses a measurement");
-        bits(&self.lines).chain(bits(&self.energies)).chain([self.told.flag as u32]).collect()
+        let places = peaks.iter().map(|&k| u32::try_from(k).expect("a peak that is a line"));
+        bits(&self.lines).chain(bits(&self.energies)).chain(places).chain([self.told.flag as u32]).collect()
     }
 }
 
@@ -137,7 +147,7 @@ impl Call for RustAnalysis {
         f.told.flag = self.0.run(&f.input, &mut f.lines, &mut f.energies);
     }
     fn bits(&self) -> Vec<u32> {
-        self.1.bits()
+        self.1.bits(&searched(self.0.get_i_fs(), &self.1.lines))
     }
 }
 
@@ -156,7 +166,7 @@ impl Call for PortAnalysis {
     }
     fn bits(&self) -> Vec<u32> {
         assert_eq!(self.0.number, 0, "the port refuses a frame");
-        self.1.bits()
+        self.1.bits(&self.1.peaks)
     }
 }
 
@@ -176,7 +186,7 @@ impl Call for PlaceAnalysis {
     }
     fn bits(&self) -> Vec<u32> {
         assert_eq!(self.0.number, 0, "the port refuses a frame in place");
-        self.1.bits()
+        self.1.bits(&self.1.peaks)
     }
 }
 
@@ -191,7 +201,7 @@ impl Call for RustMeasure {
         f.told.flag = self.0.measure(&f.lines, &mut f.energies);
     }
     fn bits(&self) -> Vec<u32> {
-        self.1.bits()
+        self.1.bits(&searched(self.0.get_i_fs(), &self.1.lines))
     }
 }
 
@@ -205,7 +215,7 @@ impl Call for PortMeasure {
         self.1.measure(self.0);
     }
     fn bits(&self) -> Vec<u32> {
-        self.1.bits()
+        self.1.bits(&self.1.peaks)
     }
 }
 
@@ -305,16 +315,27 @@ fn agree(side: &str, call: &str, number: u8) -> bool {
     })
 }
 
-/// Whether a measurement of no configuration, of too few lines, of too few energies or of a line out of range is refused by number and index, and changes nothing.
+/// Whether of lines of a few sizes, many of them alike but for their signs, each band's first one of the greatest is found.
+fn finds_peaks(number: u8) -> bool {
+    let (mut frame, mut pick, edges) = (Frame::new(&config(number)), Random(number as u64), encoder_of(number).get_i_fs());
+    (0..ROUNDS).all(|_| {
+        frame.lines.iter_mut().for_each(|x| *x = (pick.next() % 5) as f32 - 2.0);
+        frame.measure(number);
+        frame.told.number == 0 && frame.peaks == searched(edges, &frame.lines)
+    })
+}
+
+/// Whether a measurement of no configuration, of too few lines, energies or peaks, or of a line out of range is refused by number and index, and changes nothing.
 fn refuses_to_measure() -> bool {
     let known = numbers().next().expect("a configuration");
     let (nf, nb) = (config(known).nf, config(known).nb);
     let mut lines = vec![3f32; nf];
     lines[7] = f32::INFINITY;
-    [(NONE, nf, nb, 1, 0), (known, nf - 1, nb, 3, 0), (known, nf, nb - 1, 5, 0), (known, nf, nb, 6, 7)].iter().all(|&(number, from, to, refused, index)| {
-        let mut energies = vec![5f32; to];
-        let told = unsafe { port::loamscarf_measure(number, lines.as_ptr(), from, energies.as_mut_ptr(), to) };
-        told == port::Measured { number: refused, index, flag: false } && energies.iter().all(|&x| x == 5.0)
+    let refused = [(NONE, nf, nb, nb, 1, 0), (known, nf - 1, nb, nb, 3, 0), (known, nf, nb - 1, nb, 5, 0), (known, nf, nb, nb - 1, 5, 0), (known, nf, nb, nb, 6, 7)];
+    refused.iter().all(|&(config, count, room, peak_room, number, index)| {
+        let (mut e, mut p) = (vec![5f32; room], vec![9usize; peak_room]);
+        let told = unsafe { port::loamscarf_measure(config, lines.as_ptr(), count, e.as_mut_ptr(), room, p.as_mut_ptr(), peak_room) };
+        told == port::Measured { number, index, flag: false } && e.iter().all(|&x| x == 5.0) && p.iter().all(|&k| k == 9)
     })
 }
 
@@ -339,6 +360,10 @@ fn check() {
             }
         }
     }
+    if let Some(number) = numbers().find(|&number| !finds_peaks(number)) {
+        println!("a peak is not the first of equals: configuration {number}");
+        std::process::exit(1);
+    }
     if !refuses() || !refuses_to_measure() {
         println!("a frame in place or a measurement that is refused changes something, or tells another number");
         std::process::exit(1);
@@ -346,7 +371,7 @@ fn check() {
     println!("{}", ROUNDS * compared.len() * numbers().count());
 }
 
-/// A DCT is in place: its buffer stays zero here, since other values would grow from call to call. No count depends on values.
+/// A DCT is in place: its buffer stays zero here, since other values would grow from call to call. No count of it depends on values.
 fn count(call: &str, mut made: Box<dyn Call>, n: usize) {
     if call != "dct" {
         made.give(&mut Random(1));

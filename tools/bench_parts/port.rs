@@ -74,7 +74,15 @@ extern "C" {
         lines: *mut f32,
         lines_length: usize,
     ) -> u8;
-    pub fn loamscarf_measure(config: u8, lines: *const f32, lines_length: usize, energies: *mut f32, energies_length: usize) -> Measured;
+    pub fn loamscarf_measure(
+        config: u8,
+        lines: *const f32,
+        lines_length: usize,
+        energies: *mut f32,
+        energies_length: usize,
+        peaks: *mut usize,
+        peaks_length: usize,
+    ) -> Measured;
     pub fn loamscarf_synthesis_frame(
         channel: SynthesisChannel,
         lines: *const f32,

@@ -1,5 +1,7 @@
 //! The log of calls: its bytes taken apart. A call that is cut, unknown or too long is `None`.
 
+/// The version that is taken.
+const VERSION: u16 = 2;
 /// The most that a count or an area's length may be.
 const MOST: usize = 1024;
 /// How many places a channel's array has.
@@ -8,7 +10,7 @@ pub const ROOM: usize = 300;
 /// One call of the log.
 pub enum Call {
     ClearAnalysis(u8),
-    Analyse { input: Vec<i16>, lines: usize, energies: usize },
+    Analyse { input: Vec<i16>, lines: usize, energies: usize, peaks: usize },
     ClearSynthesis(u8),
     Synthesise { lines: Vec<f32>, samples: usize },
     Fft { size: usize, inverse: bool, re: Vec<f32>, im: Vec<f32>, re_out: usize, im_out: usize },
@@ -18,7 +20,7 @@ pub enum Call {
     SetAnalysis(u8, Vec<i16>),
     SetSynthesis(u8, Vec<f32>),
     Transform { input: Vec<i16>, lines: usize },
-    Measure { config: u8, lines: Vec<f32>, energies: usize },
+    Measure { config: u8, lines: Vec<f32>, energies: usize, peaks: usize },
 }
 
 /// What is left of the log.
@@ -35,7 +37,7 @@ impl<'a> Log<'a> {
         if &bytes[..3] != b"LMC" {
             return Err(9);
         }
-        if u16::from_le_bytes([bytes[3], bytes[4]]) != 1 {
+        if u16::from_le_bytes([bytes[3], bytes[4]]) != VERSION {
             return Err(10);
         }
         Ok(Log { rest: &bytes[5..] })
@@ -85,7 +87,7 @@ impl<'a> Log<'a> {
         let kind = self.byte()?;
         let call = match kind {
             1 => Call::ClearAnalysis(self.byte()?),
-            2 => Call::Analyse { input: self.samples(MOST)?, lines: self.count(MOST)?, energies: self.count(MOST)? },
+            2 => Call::Analyse { input: self.samples(MOST)?, lines: self.count(MOST)?, energies: self.count(MOST)?, peaks: self.count(MOST)? },
             3 => Call::ClearSynthesis(self.byte()?),
             4 => Call::Synthesise { lines: self.floats(MOST)?, samples: self.count(MOST)? },
             5 => Call::Fft {
@@ -102,7 +104,7 @@ impl<'a> Log<'a> {
             9 => Call::SetAnalysis(self.byte()?, self.samples(ROOM)?),
             10 => Call::SetSynthesis(self.byte()?, self.floats(ROOM)?),
             11 => Call::Transform { input: self.samples(MOST)?, lines: self.count(MOST)? },
-            12 => Call::Measure { config: self.byte()?, lines: self.floats(MOST)?, energies: self.count(MOST)? },
+            12 => Call::Measure { config: self.byte()?, lines: self.floats(MOST)?, energies: self.count(MOST)?, peaks: self.count(MOST)? },
             _ => return None,
         };
         Some((kind, call))

@@ -1,8 +1,8 @@
 //! The Rust's side of the bench: reads a log of calls on standard input, runs lc3-codec on each, and prints what it answers.
-//! Refusals, the loudest band and channels that came from no clear are decided here, from the paper's text.
+//! Refusals, peaks, the loudest band and channels that came from no clear are decided here, from the paper's text.
 //! `crate::common`, `encoder`, `decoder` and `tables` are lc3-codec's own files, unchanged; the crate `short_frames` is their copy, which runs the
 //! configurations that lc3-codec does not have, and nothing else. A frame, measured or not, is lc3-codec's `run`, which does both at once; a measurement
-//! alone is the two functions that `run` measures with.
+//! alone is the two functions that `run` measures with. lc3-codec has no peaks: each band's lines, between lc3-codec's own edges, are searched for it here.
 
 mod log;
 
@@ -32,6 +32,7 @@ mod short {
 trait Transforms {
     fn analyse(&self, time: &mut [i16], input: &[i16], lines: &mut [f32], energies: &mut [f32]) -> bool;
     fn measure(&self, lines: &[f32], energies: &mut [f32]) -> bool;
+    fn edges(&self) -> &'static [usize];
     fn buffer_length(&self) -> usize;
     fn synthesise(&self, buffer: &mut [f32], lines: &[f32], samples: &mut [f32]);
 }
@@ -70,6 +71,11 @@ fn area(length: usize) -> Vec<f32> {
     (0..length).map(|i| i as f32 + 0.5).collect()
 }
 
+/// What a peaks' area holds before a call.
+fn peak_area(length: usize) -> Vec<usize> {
+    (0..length).map(|i| i + 7).collect()
+}
+
 /// The analysis channel: the time buffer that lc3-codec keeps, and the array as the port shows it.
 struct Analysis {
     config: u8,
@@ -104,21 +110,25 @@ impl Analysis {
     }
 
     /// A frame to lines, and where that is accepted the measurement of them.
-    fn pair(&mut self, input: &[i16], lines: &mut [f32], energies: &mut [f32]) -> Result<bool, Verdict> {
+    fn pair(&mut self, input: &[i16], lines: &mut [f32], energies: &mut [f32], peaks: &mut [usize]) -> Result<bool, Verdict> {
         let (own, flag) = self.frame(input, lines)?;
-        measurable(self.config, lines, energies)?;
+        let c = measurable(self.config, lines, energies, peaks)?;
         energies.copy_from_slice(&own);
+        find_peaks(&c, lines, peaks);
         Ok(flag)
     }
 }
 
 /// The configuration of a measurement that is not refused.
-fn measurable(number: u8, lines: &[f32], energies: &[f32]) -> Result<Config, Verdict> {
+fn measurable(number: u8, lines: &[f32], energies: &[f32], peaks: &[usize]) -> Result<Config, Verdict> {
     let c = config(number).ok_or((1, 0))?;
     if lines.len() != c.nf {
         return Err((3, 0));
     }
     if energies.len() != c.nb {
+        return Err((5, 0));
+    }
+    if peaks.len() != c.nb {
         return Err((5, 0));
     }
     match first_failing(lines, passes_6) {
@@ -127,8 +137,28 @@ fn measurable(number: u8, lines: &[f32], energies: &[f32]) -> Result<Config, Ver
     }
 }
 
-fn measure(number: u8, lines: &[f32], energies: &mut [f32]) -> Result<bool, Verdict> {
-    Ok(measurable(number, lines, energies)?.transforms.measure(lines, energies))
+/// The first of the lines `from..to` with the greatest product.
+fn peak(lines: &[f32], from: usize, to: usize) -> usize {
+    let mut best = from;
+    for k in from + 1..to {
+        if lines[k] * lines[k] > lines[best] * lines[best] {
+            best = k;
+        }
+    }
+    best
+}
+
+fn find_peaks(c: &Config, lines: &[f32], peaks: &mut [usize]) {
+    let edges = c.transforms.edges();
+    for (b, place) in peaks.iter_mut().enumerate() {
+        *place = peak(lines, edges[b], edges[b + 1]);
+    }
+}
+
+fn measure(number: u8, lines: &[f32], energies: &mut [f32], peaks: &mut [usize]) -> Result<bool, Verdict> {
+    let c = measurable(number, lines, energies, peaks)?;
+    find_peaks(&c, lines, peaks);
+    Ok(c.transforms.measure(lines, energies))
 }
 
 /// The synthesis channel: lc3-codec's own buffer, whose first places are the memory, and the array as the port shows it.
@@ -239,6 +269,10 @@ fn floats(name: &str, places: &[f32]) -> String {
     line(name, places.iter().map(|&x| spelled(x)))
 }
 
+fn decimals(name: &str, places: &[usize]) -> String {
+    line(name, places.iter().map(|k| k.to_string()))
+}
+
 fn padded<T: Copy>(values: &[T], zero: T) -> [T; ROOM] {
     let mut array = [zero; ROOM];
     array[..values.len()].copy_from_slice(values);
@@ -281,10 +315,10 @@ fn answer_loudest(energies: &[f32]) -> Answer {
     }
 }
 
-fn answer_measure(config: u8, lines: &[f32], energies: usize) -> Answer {
-    let mut energies = area(energies);
-    let told = measure(config, lines, &mut energies);
-    Answer::flagged(told, vec![floats("energies", &energies)])
+fn answer_measure(config: u8, lines: &[f32], energies: usize, peaks: usize) -> Answer {
+    let (mut energies, mut peaks) = (area(energies), peak_area(peaks));
+    let told = measure(config, lines, &mut energies, &mut peaks);
+    Answer::flagged(told, vec![floats("energies", &energies), decimals("peaks", &peaks)])
 }
 
 /// Both channels.
@@ -294,10 +328,10 @@ struct Bench {
 }
 
 impl Bench {
-    fn analyse(&mut self, input: &[i16], lines: usize, energies: usize) -> Answer {
-        let (mut lines, mut energies) = (area(lines), area(energies));
-        let told = self.analysis.pair(input, &mut lines, &mut energies);
-        Answer::flagged(told, vec![floats("lines", &lines), floats("energies", &energies)])
+    fn analyse(&mut self, input: &[i16], lines: usize, energies: usize, peaks: usize) -> Answer {
+        let (mut lines, mut energies, mut peaks) = (area(lines), area(energies), peak_area(peaks));
+        let told = self.analysis.pair(input, &mut lines, &mut energies, &mut peaks);
+        Answer::flagged(told, vec![floats("lines", &lines), floats("energies", &energies), decimals("peaks", &peaks)])
     }
 
     fn transform(&mut self, input: &[i16], lines: usize) -> Answer {
@@ -329,7 +363,7 @@ impl Bench {
     fn answer(&mut self, call: Call) -> Answer {
         match call {
             Call::ClearAnalysis(number) => self.changed(config(number).is_some(), |b| b.analysis = Analysis::set(number, [0; ROOM])),
-            Call::Analyse { input, lines, energies } => self.analyse(&input, lines, energies),
+            Call::Analyse { input, lines, energies, peaks } => self.analyse(&input, lines, energies, peaks),
             Call::ClearSynthesis(number) => self.changed(config(number).is_some(), |b| b.synthesis = Synthesis::set(number, [0.0; ROOM])),
             Call::Synthesise { lines, samples } => self.synthesise(&lines, samples),
             Call::Fft { size, inverse, re, im, re_out, im_out } => answer_fft(size, inverse, &re, &im, re_out, im_out),
@@ -339,7 +373,7 @@ impl Bench {
             Call::SetAnalysis(number, samples) => self.changed(true, |b| b.analysis = Analysis::set(number, padded(&samples, 0))),
             Call::SetSynthesis(number, memory) => self.changed(true, |b| b.synthesis = Synthesis::set(number, padded(&memory, 0.0))),
             Call::Transform { input, lines } => self.transform(&input, lines),
-            Call::Measure { config, lines, energies } => answer_measure(config, &lines, energies),
+            Call::Measure { config, lines, energies, peaks } => answer_measure(config, &lines, energies, peaks),
         }
     }
 }

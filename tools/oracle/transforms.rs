@@ -28,6 +28,12 @@ impl Transforms for Lc3Config {
         mdct.measure(lines, energies)
     }
 
+    fn edges(&self) -> &'static [usize] {
+        let (mut time, mut work) = (vec![0; 2 * self.nf], work(self));
+        let (mdct, _, _) = encoder::modified_dct::ModDiscreteCosTrans::new(*self, &mut time, &mut work);
+        mdct.get_i_fs()
+    }
+
     fn buffer_length(&self) -> usize {
         decoder::modified_dct::ModDiscreteCosTrans::calc_working_buffer_length(self).0
     }
