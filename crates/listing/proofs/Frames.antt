@@ -25,7 +25,7 @@ take-replicate (suc n) zero a h = absurd (not-suc-le-zero h)
 take-replicate {A} (suc n) (suc m) a h = ap (λ (l : List A). a ∷ l) (take-replicate n m a (le-of-suc-le-suc h))
 
 -- the first n places of a room of m zeros, n being the k that the configuration says
-module _ {A : Type 0} {a : A} {n m k : ℕ} {l : List A} (p : l ≡ replicate m a) (q : n ≡ k) (h : k ≤ m) where
+module _ {A : Type 0} (m : ℕ) (a : A) {n k : ℕ} {l : List A} (p : l ≡ replicate m a) (q : n ≡ k) (h : k ≤ m) where
   pub part-within : n ≤ length l
   part-within = omega (arith, ap length p, length-replicate m a)
 

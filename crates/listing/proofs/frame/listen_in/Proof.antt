@@ -6,11 +6,11 @@ use Rattle.listing.proofs.frame.listen_in.Tie as tie
 
 returns : tie.Need-returns
 returns c =
-    let called = c .before .before .before .before .before .before .before .before .before .before .before .before .before .before in
-    let framed = c .before .before .before .before .before .before .before .before .before .before .frame in
-    let measured = c .before .before .before .before .before .measure in
+    let called = c .before .before .before .before .before .before .before .before .before .before .before .before .before .before .before .before .before .before in
+    let framed = c .before .before .before .before .before .before .before .before .before .before .before .before .before .frame in
+    let measured = c .before .before .before .before .before .before .before .measure in
     let heard = c .before .loudest-band in
-    listened-is (called .args .channel) (called .args .input .now) _ _ _ _ (framed .result) (measured .result) (heard .result) (called .pre .0) (called .pre .1) (framed .ensures) (measured .ensures) (heard .ensures)
+    listened-is (called .args .channel) (called .args .input .now) _ _ _ _ _ _ (framed .result) (measured .result) (heard .result) (called .pre .0) (called .pre .1) (called .pre .2) (framed .ensures) (measured .ensures) (heard .ensures)
 
 -- the needs without a name, for any answer: a wrong one hides none of them
 safe : tie.Need-returns → {M : Type 1} → statement M
@@ -20,6 +20,7 @@ safe returns =
     (λ c κs. search needs)
     (λ c κs. search needs)
     (λ c κs. search needs)
+    (λ c. search needs)
     (λ c. search needs)
     (λ c. search needs)
     returns)
