@@ -70,6 +70,13 @@ fn floats_room() -> [f32; 480]
     [0.0; 480]
 }
 
+// Room for the peaks, which are not held to anything here.
+fn places_room() -> [usize; 480]
+    ensures { λ r. ⌜ 480 ≡ length r ⌝ }
+{
+    [0usize; 480]
+}
+
 // Fills buf from the file. Whether all of it was there.
 fn fill(fd: i32, buf: &mut [u8]) -> bool {
     io::read_full(fd, buf) == buf.len()
@@ -129,6 +136,7 @@ fn analyse_in(
     frame: &mut [i16],
     lines: &mut [f32],
     energies: &mut [f32],
+    peaks: &mut [usize],
 ) -> Analysed
     requires { ⌜ (length (now frame) ≤ 480) × (length (now lines) ≤ 480) × (length (now energies) ≤ 480) ⌝ }
 {
@@ -136,7 +144,7 @@ fn analyse_in(
     let config = channel.config;
     let framed = channel.frame(frame, lines);
     let next = framed.channel;
-    measurement::measure(config, lines, energies);
+    measurement::measure(config, lines, energies, peaks);
     let by_lines = held(fd, lines);
     let by_energies = held(fd, energies);
     Analysed {
@@ -153,12 +161,14 @@ fn analyse(fd: i32, channel: analysis::Channel, nf: usize, nb: usize) -> Analyse
     let mut frame = samples_room();
     let mut lines = floats_room();
     let mut energies = floats_room();
+    let mut peaks = places_room();
     analyse_in(
         fd,
         channel,
         &mut frame[..nf],
         &mut lines[..nf],
         &mut energies[..nb],
+        &mut peaks[..nb],
     )
 }
 

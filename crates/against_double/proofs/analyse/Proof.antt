@@ -16,6 +16,9 @@ floats-room-requires c κs = search needs
 floats-room-requires-2 : tie.Need-floats-room-requires-2
 floats-room-requires-2 c κs = search needs
 
+places-room-requires : tie.Need-places-room-requires
+places-room-requires c κs = search needs
+
 array-borrow-prefix-frame : tie.Need-array-borrow-prefix-frame
 array-borrow-prefix-frame c = search needs
 
@@ -34,8 +37,14 @@ array-borrow-prefix-energies c = search needs
 slice-aggregate-analyse-in-3 : tie.Need-slice-aggregate-analyse-in-3
 slice-aggregate-analyse-in-3 c = sym (length-take-le _ _ (omega arith))
 
+array-borrow-prefix-peaks : tie.Need-array-borrow-prefix-peaks
+array-borrow-prefix-peaks c = search needs
+
+slice-aggregate-analyse-in-4 : tie.Need-slice-aggregate-analyse-in-4
+slice-aggregate-analyse-in-4 c = sym (length-take-le _ _ (omega arith))
+
 analyse-in-requires : tie.Need-analyse-in-requires
-analyse-in-requires c κs = (within (c .before .before .before .before .before .before .args .nf) 480 _ (omega arith), within (c .before .before .before .before .before .before .args .nf) 480 _ (omega arith), within (c .before .before .before .before .before .before .args .nb) 480 _ (omega arith))
+analyse-in-requires c κs = (within (c .before .before .before .before .before .before .before .before .args .nf) 480 _ (omega arith), within (c .before .before .before .before .before .before .before .before .args .nf) 480 _ (omega arith), within (c .before .before .before .before .before .before .before .before .args .nb) 480 _ (omega arith))
 
 returns : tie.Need-returns
 returns c = search needs
@@ -47,11 +56,14 @@ analyse-spec =
     samples-room-requires
     floats-room-requires
     floats-room-requires-2
+    places-room-requires
     array-borrow-prefix-frame
     slice-aggregate-analyse-in
     array-borrow-prefix-lines
     slice-aggregate-analyse-in-2
     array-borrow-prefix-energies
     slice-aggregate-analyse-in-3
+    array-borrow-prefix-peaks
+    slice-aggregate-analyse-in-4
     analyse-in-requires
     returns)
