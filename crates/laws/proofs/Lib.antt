@@ -6,3 +6,4 @@ pub mod Sign
 pub mod Order
 pub mod Parts
 pub mod Bools
+pub mod Greatest

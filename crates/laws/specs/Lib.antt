@@ -1,3 +1,4 @@
 pub mod Lists
 pub mod Passes
 pub mod Numbers
+pub mod Greatest

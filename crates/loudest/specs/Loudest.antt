@@ -1,35 +1,19 @@
 -- The loudest band (document 01, module 7): quiet, or the first band with the greatest energy. Definitions only.
-use Prim.Native.Nat.{ℕ, zero, suc, _<_}
-use mathlib.Core.Path.{_≡_}
-use mathlib.Core.Bool.{Bool, true, false, cond}
+use Prim.Native.Nat.{ℕ}
+use mathlib.Core.Bool.{Bool, false, cond}
 use mathlib.Core.Option.{Option, some, none}
-use mathlib.Core.List.{List, [], _∷_}
-use lib.Dec.{T, eqb}
+use mathlib.Core.List.{List}
+use lib.Dec.{eqb}
 use lib.ListN.{length, getD}
-use lib.Ieee.{Float, nan, inf, fin, lt}
+use lib.Ieee.{Float, nan, inf, fin}
 use Rattle.laws.specs.Lists.{first}
+use Rattle.laws.specs.Greatest.{best}
 use Rattle.laws.specs.Passes.{passes7}
 use Rattle.config.specs.Config.{among, bandCounts}
 use Rattle.config.specs.Refusals.{accepted, badEnergies, badEnergy}
 use Rattle.loudest.specs.declared.Loudest.{Loudest}
 use Rattle.loudest.specs.declared.Loudest.the-variants.{Quiet, Loud}
 use Rattle.loudest.specs.declared.Heard.{Heard}
-
--- ---- the first with the greatest, of any values that can be ranked
--- in words: greater than all before it, no less than all after it
-pub record First (l : List Float) (b : ℕ) : Type 0 where
-  pub inside : b < length l
-  pub before : (k : ℕ) → k < b → T (lt (getD l k nan) (getD l b nan))
-  pub after : (k : ℕ) → b < k → k < length l → lt (getD l b nan) (getD l k nan) ≡ false
-
--- by a scan: place k in the stead of the best so far where it is greater
-abbrev pub better : List Float → ℕ → ℕ → ℕ
-better l b k = cond (lt (getD l b nan) (getD l k nan)) k b
-
--- the best of the first n places
-unfoldable pub best : List Float → ℕ → ℕ
-best l zero = 0
-best l (suc n) = better l (best l n) n
 
 -- ---- the answer
 -- a zero of either sign

@@ -4,7 +4,8 @@ ghost use Prim.Native.Nat.{_<_};
 ghost use lib.ListN.{length};
 ghost use Rattle.laws.specs.Lists.{first};
 ghost use Rattle.laws.specs.Passes.{passes7};
-ghost use Rattle.loudest.specs.Loudest.{best, loudest, refusal, heard};
+ghost use Rattle.laws.specs.Greatest.{best};
+ghost use Rattle.loudest.specs.Loudest.{loudest, refusal, heard};
 
 pub enum Loudest {
     Quiet,

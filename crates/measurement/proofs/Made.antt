@@ -1,9 +1,9 @@
 -- What the callees ensure, put together, is the definition of the measurement. Assumes nothing.
-use mathlib.Core.Path.{_≡_, refl, sym, ap₂, subst, _∙_}
+use mathlib.Core.Path.{_≡_, refl, sym, ap, ap₂, subst, _∙_}
 use mathlib.Core.Bool.{Bool, false}
 use mathlib.Core.List.{List}
-use Prim.Native.Nat.{ℕ, zero, suc, _+_, _-_, _≤_, _<_}
-use native.Mathlib.Numerals.{add-one}
+use Prim.Native.Nat.{ℕ, _+_, _-_, _≤_, _<_}
+use native.Mathlib.Nat.{zero-add}
 use native.Mathlib.Omega.{arith}
 use lib.Dec.{T}
 use lib.ListN.{length, getD, take, drop}
@@ -12,10 +12,11 @@ use borrow.Author.Tests.{le-leb, lt-leb}
 use Rattle.laws.specs.Lists.{tab}
 use Rattle.laws.proofs.Lists.{tab-ext}
 use Rattle.config.specs.Config.{valid, nf, nb, rate, upper, edges}
-use Rattle.config.specs.Sound.{Rising as Bands}
 use Rattle.config.proofs.Sound.{sound}
-use Rattle.measurement_steps.specs.Energy.{energy, bandOf, energies, exceeds, Rising}
-use Rattle.measurement.specs.Measurement.{energiesOf, flagOf}
+use Rattle.measurement_steps.specs.Energy.{energy, energies, exceeds, Rising}
+use Rattle.measurement_steps.specs.Peak.{peaks}
+use Rattle.measurement_steps.proofs.Bands.{spaced, lone-energy, lone-place}
+use Rattle.measurement.specs.Measurement.{energiesOf, peaksOf, flagOf}
 
 -- the edges that the code has at hand
 pub edges-rise : (c n m : ℕ) (es : List ℕ) → T (valid c) → n ≡ nb c → m ≡ nf c → es ≡ edges c → Rising n es m
@@ -27,38 +28,28 @@ pub made-energies : (c n : ℕ) (es : List ℕ) (l out : List Float) → n ≡ n
 unfolding energiesOf
 made-energies c n es l out p q h = h ∙ ap₂ (λ (m : ℕ) (v : List ℕ). energies m v l) p q
 
--- bands that rise, each with a line at least: where there are as many as lines, band b is line b
-module _ (n : ℕ) (es : List ℕ) (r : Bands n es n) where
-  low : (b : ℕ) → b ≤ n → b ≤ getD es b 0
-  low zero h = omega arith
-  low (suc b) h = rw (sym (add-one b)) (omega (arith, low b (omega arith), r b (omega arith)))
+pub made-peaks : (c n : ℕ) (es : List ℕ) (l : List Float) (out : List ℕ) → n ≡ nb c → es ≡ edges c → out ≡ peaks n es l → out ≡ peaksOf c l
+unfolding peaksOf
+made-peaks c n es l out p q h = h ∙ ap₂ (λ (m : ℕ) (v : List ℕ). peaks m v l) p q
 
-  high : (k : ℕ) → k < n → getD es (n - k) 0 + k ≤ n
-  high zero h =
-      let e : n - 1 + 1 ≡ n - 0 = omega arith in
-      subst (λ (m : ℕ). getD es m 0 + 0 ≤ n) e (omega (arith, r (n - 1) (omega arith)))
-  high (suc k) h =
-      let e : n - (k + 1) + 1 ≡ n - k = omega arith in
-      let l = subst (λ (m : ℕ). getD es (n - (k + 1)) 0 < getD es m 0) e (r (n - (k + 1)) (omega arith) .0) in
-      rw (sym (add-one k)) (omega (arith, l, high k (omega arith)))
+-- as many bands as lines: band b is line b
+module _ (c n : ℕ) (l : List Float) (v : T (valid c)) (p : n ≡ nb c) (q : length l ≡ nf c) (e : n ≡ length l) where
+  is-line : (b : ℕ) → b ≤ n → getD (edges c) b 0 ≡ b
+  is-line b h =
+      let s = sound c v in
+      let end = ap (λ (k : ℕ). getD (edges c) k 0) p ∙ s .edges-to in
+      let all = spaced (edges c) 0 n (λ k u. rw zero-add (s .rising k (omega arith) .0)) (rw zero-add (omega (arith, end))) b h in
+      (rw zero-add at all) ∙ omega (arith, s .edges-from)
 
-  ends : (b : ℕ) → b < n → getD es (b + 1) 0 ≡ b + 1
-  ends b h =
-      let e : n - (n - (b + 1)) ≡ b + 1 = omega arith in
-      let t = subst (λ (m : ℕ). getD es m 0 + (n - (b + 1)) ≤ n) e (high (n - (b + 1)) (omega arith)) in
-      omega (arith, t, low (b + 1) (omega arith))
+  pub made-ones : (out : List Float) → out ≡ tab n (λ b. energy (take 1 (drop b l))) → out ≡ energiesOf c l
+  unfolding energies
+  made-ones out h =
+      made-energies c n (edges c) l out p refl (h ∙ tab-ext n _ _ (λ b u. lone-energy (edges c) l b b (sym (is-line b (omega arith))) (is-line (b + 1) (omega arith))))
 
-  lone : (ls : List Float) → tab n (λ b. energy (take 1 (drop b ls))) ≡ energies n es ls
-  unfolding energies bandOf
-  lone ls = tab-ext n _ _ (λ b h.
-      let at : b ≡ getD es b 0 = omega (arith, ends b h, low b (omega arith), r b h) in
-      let wide : 1 ≡ getD es (b + 1) 0 - getD es b 0 = omega (arith, at, ends b h) in
-      ap₂ (λ (m a : ℕ). energy (take m (drop a ls))) wide at)
-
-pub made-ones : (c n : ℕ) (l out : List Float) → T (valid c) → n ≡ nb c → length l ≡ nf c → n ≡ length l → out ≡ tab n (λ b. energy (take 1 (drop b l))) → out ≡ energiesOf c l
-made-ones c n l out v p q e h =
-    let s = sound c v in
-    made-energies c n (edges c) l out p refl (h ∙ lone n (edges c) (λ b i. let r = s .rising b (omega arith) in (omega arith, omega arith)) l)
+  pub made-own : (out : List ℕ) → out ≡ tab n (λ b. b) → out ≡ peaksOf c l
+  unfolding peaks
+  made-own out h =
+      made-peaks c n (edges c) l out p refl (h ∙ tab-ext n _ _ (λ b u. lone-place (edges c) l b b (sym (is-line b (omega arith))) (is-line (b + 1) (omega arith))))
 
 -- the flag, above 32 kHz and up to it
 pub flag-off : (c : ℕ) (es : List Float) → 32000 < rate c → false ≡ flagOf c es

@@ -12,7 +12,7 @@ use Rattle.laws.specs.Passes.{passes6}
 use Rattle.config.specs.Config.{valid, nf, nb}
 use Rattle.config.specs.declared.Verdict.{Verdict}
 use Rattle.config.proofs.Verdicts.{went-on}
-use Rattle.measurement.specs.Measurement.{energiesOf, flagOf, Lent, Given, number, verdict, measured, measures}
+use Rattle.measurement.specs.Measurement.{energiesOf, peaksOf, flagOf, Lent, Given, number, verdict, measured, measures}
 
 -- the verdict, from the tests one after the other; v is what the code's test of the configuration gave, k what its search gave
 module _ (c : ℕ) (x : Lent) {v : Bool} (e : v ≡ valid c) where
@@ -33,20 +33,24 @@ module _ (c : ℕ) (x : Lent) {v : Bool} (e : v ≡ valid c) where
       pub says-5 : (length (x .energies) ≡ nb c → ⊥) → Says 5 0
       says-5 b = rw (ok, eq-eqb _ _ a, ne-eqb _ _ b)
 
-      module _ (b : length (x .energies) ≡ nb c) {k : ℕ} (f : k ≡ first passes6 (x .lines)) where
-        pub says-6 : k < length (x .lines) → Says 6 k
-        says-6 d = rw (ok, eq-eqb _ _ a, eq-eqb _ _ b, lt-ltb _ _ (subst (λ (j : ℕ). j < length (x .lines)) f d), f)
+      module _ (b : length (x .energies) ≡ nb c) where
+        pub says-5-too : (length (x .peaks) ≡ nb c → ⊥) → Says 5 0
+        says-5-too d = rw (ok, eq-eqb _ _ a, eq-eqb _ _ b, ne-eqb _ _ d)
 
-        pub says-0 : length (x .lines) ≤ k → Says 0 0
-        says-0 d = rw (ok, eq-eqb _ _ a, eq-eqb _ _ b, le-ltb _ _ (subst (λ (j : ℕ). length (x .lines) ≤ j) f d))
+        module _ (d : length (x .peaks) ≡ nb c) {k : ℕ} (f : k ≡ first passes6 (x .lines)) where
+          pub says-6 : k < length (x .lines) → Says 6 k
+          says-6 g = rw (ok, eq-eqb _ _ a, eq-eqb _ _ b, eq-eqb _ _ d, lt-ltb _ _ (subst (λ (j : ℕ). j < length (x .lines)) f g), f)
+
+          pub says-0 : length (x .lines) ≤ k → Says 0 0
+          says-0 g = rw (ok, eq-eqb _ _ a, eq-eqb _ _ b, eq-eqb _ _ d, le-ltb _ _ (subst (λ (j : ℕ). length (x .lines) ≤ j) f g))
 
 -- a refused call
 pub refused : (c : ℕ) (x : Lent) (v : Verdict) → v ≡ verdict (number c x) x → (v .number ≡ 0 → ⊥)
-    → _≡_ {A = Given} (record { number = v .number; index = v .index; flag = false; energies = x .energies }) (measures c x)
+    → _≡_ {A = Given} (record { number = v .number; index = v .index; flag = false; energies = x .energies; peaks = x .peaks }) (measures c x)
 unfolding measures
-refused c x v e h = ap (λ (w : Verdict). record { number = w .number; index = w .index; flag = false; energies = x .energies }) e ∙ go (number c x) (λ n. h (ap (λ (w : Verdict). w .number) e ∙ n))
+refused c x v e h = ap (λ (w : Verdict). record { number = w .number; index = w .index; flag = false; energies = x .energies; peaks = x .peaks }) e ∙ go (number c x) (λ n. h (ap (λ (w : Verdict). w .number) e ∙ n))
   where
-    go : (n : ℕ) → (n ≡ 0 → ⊥) → _≡_ {A = Given} (record { number = n; index = verdict n x .index; flag = false; energies = x .energies }) (measured n c x)
+    go : (n : ℕ) → (n ≡ 0 → ⊥) → _≡_ {A = Given} (record { number = n; index = verdict n x .index; flag = false; energies = x .energies; peaks = x .peaks }) (measured n c x)
     go zero h = absurd (h refl)
     go (suc n) h = refl
 
@@ -55,19 +59,21 @@ pub record Passed (c : ℕ) (x : Lent) : Type 0 where
   pub is-valid : T (valid c)
   pub lines-is : length (x .lines) ≡ nf c
   pub energies-is : length (x .energies) ≡ nb c
+  pub peaks-is : length (x .peaks) ≡ nb c
 
 pub passed : (c : ℕ) (x : Lent) → number c x ≡ 0 → Passed c x
 passed c x e =
     let p = went-on (valid c) 0 e in
     let q = went-on (eqb (length (x .lines)) (nf c)) 2 (p .1) in
     let r = went-on (eqb (length (x .energies)) (nb c)) 4 (q .1) in
-    record { is-valid = p .0; lines-is = eqb→eq _ _ (q .0); energies-is = eqb→eq _ _ (r .0) }
+    let s = went-on (eqb (length (x .peaks)) (nb c)) 4 (r .1) in
+    record { is-valid = p .0; lines-is = eqb→eq _ _ (q .0); energies-is = eqb→eq _ _ (r .0); peaks-is = eqb→eq _ _ (s .0) }
 
 -- a call that is not refused, and what it has made
-pub made : (c : ℕ) (x : Lent) (v : Verdict) (f : Bool) (es : List Float) → v ≡ verdict (number c x) x → v .number ≡ 0
-    → es ≡ energiesOf c (x .lines) → f ≡ flagOf c es → _≡_ {A = Given} (record { number = 0; index = 0; flag = f; energies = es }) (measures c x)
+pub made : (c : ℕ) (x : Lent) (v : Verdict) (f : Bool) (es : List Float) (ps : List ℕ) → v ≡ verdict (number c x) x → v .number ≡ 0
+    → es ≡ energiesOf c (x .lines) → ps ≡ peaksOf c (x .lines) → f ≡ flagOf c es → _≡_ {A = Given} (record { number = 0; index = 0; flag = f; energies = es; peaks = ps }) (measures c x)
 unfolding measures
-made c x v f es e z p q =
+made c x v f es ps e z p t q =
     let r : f ≡ flagOf c (energiesOf c (x .lines)) = q ∙ ap (flagOf c) p in
     let n : number c x ≡ 0 = sym (ap (λ (w : Verdict). w .number) e) ∙ z in
-    (λ i. record { number = 0; index = 0; flag = r i; energies = p i }) ∙ ap (λ (m : ℕ). measured m c x) (sym n)
+    (λ i. record { number = 0; index = 0; flag = r i; energies = p i; peaks = t i }) ∙ ap (λ (m : ℕ). measured m c x) (sym n)

@@ -1,11 +1,11 @@
-// The measurement of lines, wherever they come from: the energies of their bands, and the near-Nyquist flag. It knows no channel and no window.
+// The measurement of lines, wherever they come from: the energies and peaks of their bands, and the near-Nyquist flag. It knows no channel and no window.
 // Ported from src/encoder/modified_dct.rs of lc3-codec 0.2.0, and changed: a call of its own, a configuration number picks the bands,
-// and a call with wrong lengths or lines is refused.
+// each band has its peak, and a call with wrong lengths or lines is refused.
 ghost use mathlib.Core.Path.{_≡_};
 ghost use lib.Dec.{T};
 ghost use lib.ListN.{length};
 ghost use Rattle.config.specs.Config.{valid, nf, nb};
-ghost use Rattle.measurement.specs.Measurement.{energiesOf, flagOf, number, verdict, measures, lent, outcome};
+ghost use Rattle.measurement.specs.Measurement.{energiesOf, peaksOf, flagOf, number, verdict, measures, lent, outcome};
 use config::Verdict;
 
 #[repr(C)]
@@ -26,22 +26,22 @@ fn is_near_nyquist(c: u8, energies: &[f32]) -> bool
     measurement_steps::exceeds(energies, energies.len() - config::upper(c))
 }
 
-// The energies of the lines. Where there are as many bands as lines each has one, and the edges, whose table costs more than the energies, are not needed.
-fn apply_energy_estimation(c: u8, lines: &[f32], energies: &mut [f32])
-    requires { ⌜ T (valid c) × (length (now lines) ≡ nf c) × (length (now energies) ≡ nb c) ⌝ }
-    ensures { λ _. ⌜ now (energies .exit) ≡ energiesOf c (now (lines .entry)) ⌝ }
+// The energies and peaks of the lines. Where there are as many bands as lines each has one, and the edges, whose table costs more than the energies, are not needed.
+fn apply_energy_estimation(c: u8, lines: &[f32], energies: &mut [f32], peaks: &mut [usize])
+    requires { ⌜ T (valid c) × (length (now lines) ≡ nf c) × (length (now energies) ≡ nb c) × (length (now peaks) ≡ nb c) ⌝ }
+    ensures { λ _. ⌜ (now (energies .exit) ≡ energiesOf c (now (lines .entry))) × (now (peaks .exit) ≡ peaksOf c (now (lines .entry))) ⌝ }
 {
     if energies.len() == lines.len() {
-        measurement_steps::ones(lines, energies);
+        measurement_steps::ones(lines, energies, peaks);
         return;
     }
     let edges = config::edges(c);
-    measurement_steps::apply_energy_estimation(lines, &edges, energies);
+    measurement_steps::apply_energy_estimation(lines, &edges, energies, peaks);
 }
 
 // The refusal of a call, in the order of document 01's table.
-fn refusal(c: u8, lines: &[f32], energies: &[f32]) -> Verdict
-    ensures { λ r. ⌜ r ≡ verdict (number c (lent (now (lines .entry)) (now (energies .entry)))) (lent (now (lines .entry)) (now (energies .entry))) ⌝ }
+fn refusal(c: u8, lines: &[f32], energies: &[f32], peaks: &[usize]) -> Verdict
+    ensures { λ r. ⌜ r ≡ verdict (number c (lent (now (lines .entry)) (now (energies .entry)) (now (peaks .entry)))) (lent (now (lines .entry)) (now (energies .entry)) (now (peaks .entry))) ⌝ }
 {
     if !config::valid(c) {
         return Verdict {
@@ -61,6 +61,12 @@ fn refusal(c: u8, lines: &[f32], energies: &[f32]) -> Verdict
             index: 0,
         };
     }
+    if peaks.len() != config::nb(c) {
+        return Verdict {
+            number: 5,
+            index: 0,
+        };
+    }
     let first = laws::first_failing_6(lines);
     if first < lines.len() {
         return Verdict {
@@ -74,11 +80,11 @@ fn refusal(c: u8, lines: &[f32], energies: &[f32]) -> Verdict
     }
 }
 
-// Entry. The energies of nf lines and their flag. A refusal writes nothing.
-pub fn measure(config: u8, lines: &[f32], energies: &mut [f32]) -> Measured
-    ensures { λ r. ⌜ outcome r (now (energies .exit)) ≡ measures config (lent (now (lines .entry)) (now (energies .entry))) ⌝ }
+// Entry. The energies and peaks of nf lines, and their flag. A refusal writes nothing.
+pub fn measure(config: u8, lines: &[f32], energies: &mut [f32], peaks: &mut [usize]) -> Measured
+    ensures { λ r. ⌜ outcome r (now (energies .exit)) (now (peaks .exit)) ≡ measures config (lent (now (lines .entry)) (now (energies .entry)) (now (peaks .entry))) ⌝ }
 {
-    let v = refusal(config, lines, energies);
+    let v = refusal(config, lines, energies, peaks);
     if v.number != 0 {
         return Measured {
             number: v.number,
@@ -86,7 +92,7 @@ pub fn measure(config: u8, lines: &[f32], energies: &mut [f32]) -> Measured
             flag: false,
         };
     }
-    apply_energy_estimation(config, lines, energies);
+    apply_energy_estimation(config, lines, energies, peaks);
     let flag = is_near_nyquist(config, energies);
     Measured {
         number: 0,

@@ -1,3 +1,4 @@
 pub mod Sums
-pub mod Bands
 pub mod Filled
+pub mod Peaks
+pub mod Bands

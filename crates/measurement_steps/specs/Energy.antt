@@ -37,6 +37,6 @@ total es = sumOf (λ x. x) zero32 es
 unfoldable pub exceeds : ℕ → List Float → Bool
 exceeds split es = lt (mul binary32 (ofBits binary32 0x41f00000) (total (take split es))) (total (drop split es))
 
--- the edges of nb bands rise, and none is past n lines
+-- the edges of nb bands rise, so that each has a line, and none is past n lines
 abbrev pub Rising : ℕ → List ℕ → ℕ → Type 0
-Rising nb edges n = (b : ℕ) → b < nb → (getD edges b 0 ≤ getD edges (b + 1) 0) × (getD edges (b + 1) 0 ≤ n)
+Rising nb edges n = (b : ℕ) → b < nb → (getD edges b 0 < getD edges (b + 1) 0) × (getD edges (b + 1) 0 ≤ n)

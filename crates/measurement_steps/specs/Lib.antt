@@ -1,1 +1,2 @@
 pub mod Energy
+pub mod Peak

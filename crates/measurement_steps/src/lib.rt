@@ -1,4 +1,4 @@
-// The steps of a measurement: the energies of bands, and what the near-Nyquist flag compares. They know no configuration.
+// The steps of a measurement: the energies and peaks of bands, and what the near-Nyquist flag compares. They know no configuration.
 // Ported from src/encoder/modified_dct.rs of lc3-codec 0.2.0, and changed: a function for each step, lengths and tables as arguments,
 // counted loops in place of iterators, and bands of few lines by themselves.
 ghost use mathlib.Core.Path.{_≡_};
@@ -7,18 +7,25 @@ ghost use mathlib.Core.List.{_++_};
 ghost use Prim.Native.Nat.{ℕ, _+_, _*_, _/_, _≤_, _<_};
 ghost use lib.ListN.{length, getD, take, drop};
 ghost use lib.Seq.{sets};
-ghost use lib.Ieee.{nan, binary32, mul, div};
+ghost use lib.Ieee.{Float, nan};
 ghost use Rattle.laws.specs.Lists.{tab};
-ghost use Rattle.laws.specs.Numbers.{zero32};
-ghost use Rattle.measurement_steps.specs.Energy.{sumOf, energy, bandOf, energies, total, exceeds, Rising};
+ghost use Rattle.measurement_steps.specs.Energy.{energy, bandOf, energies, total, exceeds, Rising};
+ghost use Rattle.measurement_steps.specs.Peak.{square, peakOf, peaks, higher, upTo, whole, placed};
 
-// A line's share of the energy of its band.
-fn share(lines: &[f32], i: usize, width: f32) -> f32
+// What a band has come to: the sum of its lines' shares, the first line with the greatest product, and that product.
+pub struct Reading {
+    pub energy: f32,
+    pub peak: usize,
+    pub greatest: f32,
+}
+
+// A line times itself.
+fn square(lines: &[f32], i: usize) -> f32
     requires { ⌜ i < length (now lines) ⌝ }
-    ensures { λ r. ⌜ r ≡ div binary32 (mul binary32 (getD (now (lines .entry)) i nan) (getD (now (lines .entry)) i nan)) width ⌝ }
+    ensures { λ r. ⌜ r ≡ square (getD (now (lines .entry)) i nan) ⌝ }
 {
     let x = lines[i];
-    x * x / width
+    x * x
 }
 
 // The energy of a band of one line.
@@ -26,65 +33,122 @@ fn one(lines: &[f32], i: usize) -> f32
     requires { ⌜ i < length (now lines) ⌝ }
     ensures { λ r. ⌜ r ≡ energy (take 1 (drop i (now (lines .entry)))) ⌝ }
 {
-    0.0 + share(lines, i, 1.0)
+    0.0 + square(lines, i) / 1.0
 }
 
-// The shares of the first two lines, added to 0.0 in their order.
-fn pair(lines: &[f32], width: f32) -> f32
-    requires { ⌜ 2 ≤ length (now lines) ⌝ }
-    ensures { λ r. ⌜ r ≡ sumOf (λ x. div binary32 (mul binary32 x x) width) zero32 (take 2 (now (lines .entry))) ⌝ }
+// A band before its first line, of whatever width.
+fn start(lines: &[f32]) -> Reading
+    requires { ⌜ 0 < length (now lines) ⌝ }
+    ensures { λ r. ⌜ ((width : Float) → r ≡ upTo width (now (lines .entry)) 0) ⌝ }
 {
-    0.0 + share(lines, 0, width) + share(lines, 1, width)
+    Reading {
+        energy: 0.0,
+        peak: 0,
+        greatest: square(lines, 0),
+    }
 }
 
-// The shares of four lines from place i on, added to sum in their order. They are worked out first, so that the compiler divides several at once.
-fn four(lines: &[f32], i: usize, width: f32, sum: f32) -> f32
-    requires { ⌜ i + 4 ≤ length (now lines) ⌝ }
-    ensures { λ r. ⌜ r ≡ sumOf (λ x. div binary32 (mul binary32 x x) width) sum (take 4 (drop i (now (lines .entry)))) ⌝ }
+// With line i in the peak's stead where its product is greater.
+fn higher(b: Reading, i: usize, product: f32) -> Reading
+    ensures { λ r. ⌜ r ≡ higher b i product ⌝ }
 {
-    let a = share(lines, i, width);
-    let b = share(lines, i + 1, width);
-    let c = share(lines, i + 2, width);
-    let d = share(lines, i + 3, width);
-    sum + a + b + c + d
+    if b.greatest < product {
+        Reading {
+            energy: b.energy,
+            peak: i,
+            greatest: product,
+        }
+    } else {
+        b
+    }
 }
 
-// The energy of a band of any number of lines: by fours, then the rest.
-fn many(lines: &[f32]) -> f32
-    requires { ⌜ length (now lines) ≤ 480 ⌝ }
-    ensures { λ r. ⌜ r ≡ energy (now (lines .entry)) ⌝ }
+// A line more.
+fn more(lines: &[f32], i: usize, width: f32, b: Reading) -> Reading
+    requires { ⌜ (i < length (now lines)) × (b ≡ upTo width (now lines) i) ⌝ }
+    ensures { λ r. ⌜ r ≡ upTo width (now (lines .entry)) (i + 1) ⌝ }
+{
+    let p = square(lines, i);
+    let summed = Reading {
+        energy: b.energy + p / width,
+        peak: b.peak,
+        greatest: b.greatest,
+    };
+    higher(summed, i, p)
+}
+
+// Four lines more. Their shares are worked out first, so that the compiler divides several at once.
+fn four(lines: &[f32], i: usize, width: f32, b: Reading) -> Reading
+    requires { ⌜ (i + 4 ≤ length (now lines)) × (b ≡ upTo width (now lines) i) ⌝ }
+    ensures { λ r. ⌜ r ≡ upTo width (now (lines .entry)) (i + 4) ⌝ }
+{
+    let p = square(lines, i);
+    let q = square(lines, i + 1);
+    let r = square(lines, i + 2);
+    let s = square(lines, i + 3);
+    let summed = Reading {
+        energy: b.energy + p / width + q / width + r / width + s / width,
+        peak: b.peak,
+        greatest: b.greatest,
+    };
+    let half = higher(higher(summed, i, p), i + 1, q);
+    higher(higher(half, i + 2, r), i + 3, s)
+}
+
+// The last lines, three at most.
+fn rest(lines: &[f32], i: usize, width: f32, b: Reading) -> Reading
+    requires { ⌜ (i ≤ length (now lines)) × (length (now lines) < i + 4) × (b ≡ upTo width (now lines) i) ⌝ }
+    ensures { λ r. ⌜ r ≡ upTo width (now (lines .entry)) (length (now (lines .entry))) ⌝ }
+{
+    match lines.len() - i {
+        1 => more(lines, i, width, b),
+        2 => more(lines, i + 1, width, more(lines, i, width, b)),
+        3 => {
+            let two = more(lines, i + 1, width, more(lines, i, width, b));
+            more(lines, i + 2, width, two)
+        }
+        _ => b,
+    }
+}
+
+// A band of any number of lines: by fours, then the rest.
+fn many(lines: &[f32]) -> Reading
+    requires { ⌜ (0 < length (now lines)) × (length (now lines) ≤ 480) ⌝ }
+    ensures { λ r. ⌜ r ≡ whole (now (lines .entry)) ⌝ }
 {
     let n = lines.len();
     let width = n as i32 as f32; // an i32 is one conversion, where a usize wants a test
-    let mut sum = 0.0f32;
+    let mut b = start(lines);
     for q in 0..n / 4 {
-        sum = four(lines, 4 * q, width, sum);
+        b = four(lines, 4 * q, width, b);
     }
-    for i in n / 4 * 4..n {
-        sum = sum + share(lines, i, width);
-    }
-    sum
+    rest(lines, n / 4 * 4, width, b)
 }
 
-// Inner. The energy of one band, from its lines. The bands of few lines, which are many, are spared the loops.
-pub fn energy(lines: &[f32]) -> f32
-    requires { ⌜ length (now lines) ≤ 480 ⌝ }
-    ensures { λ r. ⌜ r ≡ energy (now (lines .entry)) ⌝ }
+// Inner. One band, from its lines. The bands of few lines, which are many, are spared the loop.
+pub fn measured(lines: &[f32]) -> Reading
+    requires { ⌜ (0 < length (now lines)) × (length (now lines) ≤ 480) ⌝ }
+    ensures { λ r. ⌜ r ≡ whole (now (lines .entry)) ⌝ }
 {
+    let none = start(lines);
     match lines.len() {
-        1 => one(lines, 0),
-        2 => pair(lines, 2.0),
-        3 => pair(lines, 3.0) + share(lines, 2, 3.0),
-        4 => four(lines, 0, 4.0, 0.0),
-        5 => four(lines, 0, 5.0, 0.0) + share(lines, 4, 5.0),
+        1 => more(lines, 0, 1.0, none),
+        2 => more(lines, 1, 2.0, more(lines, 0, 2.0, none)),
+        3 => {
+            let two = more(lines, 1, 3.0, more(lines, 0, 3.0, none));
+            more(lines, 2, 3.0, two)
+        }
+        4 => four(lines, 0, 4.0, none),
+        5 => more(lines, 4, 5.0, four(lines, 0, 5.0, none)),
         _ => many(lines),
     }
 }
 
-// The energies of four bands of one line each, from place b of out on. The lines are read before the first is written, so that the compiler takes four at once.
-fn single(lines: &[f32], from: usize, out: &mut [f32], b: usize)
-    requires { ⌜ (from + 4 ≤ length (now lines)) × (b + 4 ≤ length (now out)) ⌝ }
-    ensures { λ _. ⌜ now (out .exit) ≡ sets (now (out .entry)) b (tab 4 (λ k. energy (take 1 (drop (from + k) (now (lines .entry)))))) ⌝ }
+// Four bands of one line each, from place b of both slices on. The lines are read before the first energy is written, so that the compiler takes four at once.
+fn single(lines: &[f32], from: usize, out: &mut [f32], places: &mut [usize], b: usize)
+    requires { ⌜ (from + 4 ≤ length (now lines)) × (length (now lines) ≤ 480) × (b + 4 ≤ length (now out)) × (b + 4 ≤ length (now places)) ⌝ }
+    ensures { λ _. ⌜ (now (out .exit) ≡ sets (now (out .entry)) b (tab 4 (λ k. energy (take 1 (drop (from + k) (now (lines .entry)))))))
+        × (now (places .exit) ≡ sets (now (places .entry)) b (tab 4 (λ k. from + k))) ⌝ }
 {
     let x = one(lines, from);
     let y = one(lines, from + 1);
@@ -94,74 +158,86 @@ fn single(lines: &[f32], from: usize, out: &mut [f32], b: usize)
     out[b + 1] = y;
     out[b + 2] = z;
     out[b + 3] = w;
+    places[b] = from;
+    places[b + 1] = from + 1;
+    places[b + 2] = from + 2;
+    places[b + 3] = from + 3;
 }
 
-// Whether the four bands from b on are of one line each. Every edge is looked at: edges may coincide, so the last does not tell.
+// Whether the four bands from b on are of one line each: each has a line, so the last edge tells.
 fn apart(edges: &[usize], b: usize) -> bool
-    requires { ⌜ (b + 4 < length (now edges)) × (getD (now edges) b 0 ≤ 480) ⌝ }
+    requires { ⌜ (b + 4 < length (now edges)) × Rising (b + 4) (now edges) 480 ⌝ }
     ensures { λ r. ⌜ (r ≡ true → (k : ℕ) → k < 5 → getD (now (edges .entry)) (b + k) 0 ≡ getD (now (edges .entry)) b 0 + k)
         × (r ≡ false → ((k : ℕ) → k < 5 → getD (now (edges .entry)) (b + k) 0 ≡ getD (now (edges .entry)) b 0 + k) → ⊥) ⌝ }
 {
-    let from = edges[b];
-    let mut k = 1;
-    while k < 5 {
-        if edges[b + k] != from + k {
-            return false;
-        }
-        k += 1;
-    }
-    true
+    edges[b + 4] == edges[b] + 4
 }
 
-// The energies of the first bands, by fours as long as these are of one line each; and by how many fours.
-fn singles(lines: &[f32], edges: &[usize], out: &mut [f32]) -> usize
-    requires { ⌜ (length (now lines) ≤ 480) × (length (now out) < length (now edges)) × Rising (length (now out)) (now edges) (length (now lines)) ⌝ }
+// The first bands, by fours as long as these are of one line each; and by how many fours.
+fn singles(lines: &[f32], edges: &[usize], out: &mut [f32], places: &mut [usize]) -> usize
+    requires { ⌜ (length (now lines) ≤ 480) × (length (now out) < length (now edges)) × (length (now places) ≡ length (now out)) × Rising (length (now out)) (now edges) (length (now lines)) ⌝ }
     ensures { λ r. ⌜ (r ≤ length (now (out .entry)) / 4)
         × ((q : ℕ) → q < r → (k : ℕ) → k < 5 → getD (now (edges .entry)) (4 * q + k) 0 ≡ getD (now (edges .entry)) (4 * q) 0 + k)
         × (r < length (now (out .entry)) / 4 → ((k : ℕ) → k < 5 → getD (now (edges .entry)) (4 * r + k) 0 ≡ getD (now (edges .entry)) (4 * r) 0 + k) → ⊥)
-        × (now (out .exit) ≡ tab (4 * r) (λ b. energy (bandOf (now (edges .entry)) (now (lines .entry)) b)) ++ drop (4 * r) (now (out .entry))) ⌝ }
+        × (now (out .exit) ≡ tab (4 * r) (λ b. energy (bandOf (now (edges .entry)) (now (lines .entry)) b)) ++ drop (4 * r) (now (out .entry)))
+        × (now (places .exit) ≡ tab (4 * r) (peakOf (now (edges .entry)) (now (lines .entry))) ++ drop (4 * r) (now (places .entry))) ⌝ }
 {
     let mut q = 0;
     while q < out.len() / 4 {
         if !apart(edges, 4 * q) {
             return q;
         }
-        single(lines, edges[4 * q], out, 4 * q);
+        single(lines, edges[4 * q], out, places, 4 * q);
         q += 1;
     }
     q
 }
 
-// The energy of band b.
-fn band(lines: &[f32], edges: &[usize], b: usize) -> f32
-    requires { ⌜ (length (now lines) ≤ 480) × (b + 1 < length (now edges)) × (getD (now edges) b 0 ≤ getD (now edges) (b + 1) 0) × (getD (now edges) (b + 1) 0 ≤ length (now lines)) ⌝ }
-    ensures { λ r. ⌜ r ≡ energy (bandOf (now (edges .entry)) (now (lines .entry)) b) ⌝ }
+// Reading b: its energy, and its peak from line 0 of the frame.
+fn band(lines: &[f32], edges: &[usize], b: usize) -> Reading
+    requires { ⌜ (length (now lines) ≤ 480) × (b + 1 < length (now edges)) × (getD (now edges) b 0 < getD (now edges) (b + 1) 0) × (getD (now edges) (b + 1) 0 ≤ length (now lines)) ⌝ }
+    ensures { λ r. ⌜ r ≡ placed (getD (now (edges .entry)) b 0) (whole (bandOf (now (edges .entry)) (now (lines .entry)) b)) ⌝ }
 {
     let from = edges[b];
     let to = edges[b + 1];
-    energy(&lines[from..to])
+    let own = measured(&lines[from..to]);
+    Reading {
+        energy: own.energy,
+        peak: from + own.peak,
+        greatest: own.greatest,
+    }
 }
 
-// Inner. The energy of each band.
-pub fn apply_energy_estimation(lines: &[f32], edges: &[usize], out: &mut [f32])
-    requires { ⌜ (length (now lines) ≤ 480) × (length (now out) < length (now edges)) × Rising (length (now out)) (now edges) (length (now lines)) ⌝ }
-    ensures { λ _. ⌜ now (out .exit) ≡ energies (length (now (out .entry))) (now (edges .entry)) (now (lines .entry)) ⌝ }
+// Inner. The energy and the peak of each band.
+pub fn apply_energy_estimation(
+    lines: &[f32],
+    edges: &[usize],
+    out: &mut [f32],
+    places: &mut [usize],
+)
+    requires { ⌜ (length (now lines) ≤ 480) × (length (now out) < length (now edges)) × (length (now places) ≡ length (now out)) × Rising (length (now out)) (now edges) (length (now lines)) ⌝ }
+    ensures { λ _. ⌜ (now (out .exit) ≡ energies (length (now (out .entry))) (now (edges .entry)) (now (lines .entry)))
+        × (now (places .exit) ≡ peaks (length (now (out .entry))) (now (edges .entry)) (now (lines .entry))) ⌝ }
 {
-    let mut b = 4 * singles(lines, edges, out);
+    let mut b = 4 * singles(lines, edges, out, places);
     while b < out.len() {
-        out[b] = band(lines, edges, b);
+        let own = band(lines, edges, b);
+        out[b] = own.energy;
+        places[b] = own.peak;
         b += 1;
     }
 }
 
-// Inner. The energies of as many bands as there are lines, of one line each.
-pub fn ones(lines: &[f32], out: &mut [f32])
-    requires { ⌜ length (now lines) ≡ length (now out) ⌝ }
-    ensures { λ _. ⌜ now (out .exit) ≡ tab (length (now (out .entry))) (λ b. energy (take 1 (drop b (now (lines .entry))))) ⌝ }
+// Inner. The energies of as many bands as there are lines, of one line each, which is its band's peak.
+pub fn ones(lines: &[f32], out: &mut [f32], places: &mut [usize])
+    requires { ⌜ (length (now lines) ≡ length (now out)) × (length (now places) ≡ length (now out)) ⌝ }
+    ensures { λ _. ⌜ (now (out .exit) ≡ tab (length (now (out .entry))) (λ b. energy (take 1 (drop b (now (lines .entry))))))
+        × (now (places .exit) ≡ tab (length (now (out .entry))) (λ b. b)) ⌝ }
 {
     let mut b = 0;
     while b < out.len() {
         out[b] = one(lines, b);
+        places[b] = b;
         b += 1;
     }
 }

@@ -4,7 +4,8 @@ use Prim.Native.Nat.{ℕ, _<_}
 use native.Mathlib.Omega.{arith}
 use lib.ListN.{length, getD}
 use lib.Ieee.{lt, nan, ofBits}
-use Rattle.loudest.specs.Loudest.{best, loud}
+use Rattle.laws.specs.Greatest.{best}
+use Rattle.loudest.specs.Loudest.{loud}
 use Rattle.loudest.proofs.Rank.{inside, loud-is, quiet-is}
 use borrow.Author.Needs.{needs}
 use Rattle.loudest.proofs.answer.Statement.{statement}

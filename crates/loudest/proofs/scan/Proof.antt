@@ -7,8 +7,8 @@ use native.Mathlib.Omega.{arith}
 use lib.ListN.{length, getD}
 use lib.Ieee.{nan, lt}
 use borrow.Author.Needs.{needs}
-use Rattle.loudest.specs.Loudest.{best}
-use Rattle.loudest.proofs.Rank.{scan-takes, scan-keeps}
+use Rattle.laws.specs.Greatest.{best}
+use Rattle.laws.proofs.Greatest.{scan-takes, scan-keeps}
 use Rattle.loudest.proofs.scan.Statement.{statement}
 use Rattle.loudest.proofs.scan.Tie as tie
 

@@ -4,25 +4,33 @@ use native.Mathlib.Omega.{arith}
 use lib.ListN.{length}
 use borrow.Author.Needs.{needs}
 use Rattle.config.proofs.Sound.{sound}
-use Rattle.measurement.proofs.Made.{edges-rise, made-energies, made-ones}
+use Rattle.measurement.proofs.Made.{edges-rise, made-energies, made-peaks, made-ones, made-own}
 use Rattle.measurement.proofs.apply_energy_estimation.Statement.{statement}
 use Rattle.measurement.proofs.apply_energy_estimation.Tie as tie
 
 returns : tie.Need-returns
 returns c =
-    let st = c .before .before .before .before .before .before .before in
-    made-ones (st .args .c) (length (st .args .energies .now)) (st .args .lines .now) _ (st .pre .0) (st .pre .2) (st .pre .1) (omega arith) (c .before .before .ones .ensures)
+    let s = c .before .before .before .before .before .before .before .before .before .before .before in
+    let n = length (s .args .energies .now) in
+    let ls = s .args .lines .now in
+    let wrote = c .before .before .before .before .ones .ensures in
+    (made-ones (s .args .c) n ls (s .pre .0) (s .pre .2) (s .pre .1) (omega arith) _ (wrote .0), made-own (s .args .c) n ls (s .pre .0) (s .pre .2) (s .pre .1) (omega arith) _ (wrote .1))
 
 apply-energy-estimation-requires : tie.Need-apply-energy-estimation-requires
 apply-energy-estimation-requires c κs =
-    let st = c .before .before .before .before .before .before in
+    let st = c .before .before .before .before .before .before .before .before in
+    let e = c .before .before .before .edges .ensures in
     let s = sound (st .args .c) (st .pre .0) in
-    (omega arith, omega (arith, ap length (c .before .before .edges .ensures)), edges-rise (st .args .c) _ _ _ (st .pre .0) (st .pre .2) (st .pre .1) (c .before .before .edges .ensures))
+    (omega arith, omega (arith, ap length e), omega arith, edges-rise (st .args .c) _ _ _ (st .pre .0) (st .pre .2) (st .pre .1) e)
 
 returns-2 : tie.Need-returns-2
 returns-2 c =
-    let st = c .before .before .before .before .before .before .before .before .before in
-    made-energies (st .args .c) (length (st .args .energies .now)) _ (st .args .lines .now) _ (st .pre .2) (c .before .before .before .before .before .edges .ensures) (c .before .before .apply-energy-estimation .ensures)
+    let s = c .before .before .before .before .before .before .before .before .before .before .before .before .before in
+    let n = length (s .args .energies .now) in
+    let ls = s .args .lines .now in
+    let e = c .before .before .before .before .before .before .before .before .edges .ensures in
+    let wrote = c .before .before .before .before .apply-energy-estimation .ensures in
+    (made-energies (s .args .c) n _ ls _ (s .pre .2) e (wrote .0), made-peaks (s .args .c) n _ ls _ (s .pre .2) e (wrote .1))
 
 pub apply-energy-estimation-spec : {M : Type 1} → statement M
 apply-energy-estimation-spec =
@@ -30,9 +38,11 @@ apply-energy-estimation-spec =
     (tie.spec
     (λ c κs. search needs)
     (λ c. search needs)
+    (λ c. search needs)
     returns
     (λ c κs. search needs)
     (λ c. search needs)
     apply-energy-estimation-requires
+    (λ c. search needs)
     (λ c. search needs)
     returns-2)

@@ -1,21 +1,26 @@
--- `apply_energy_estimation` meets its contract. The loop's invariant: the first b places of `out` are filled with their bands' energies. Assumes nothing.
-use mathlib.Core.Path.{_≡_}
+-- `apply_energy_estimation` meets its contract. The loop's invariant: the first b places of both slices are filled with their bands' energies and peaks. Assumes nothing.
+use mathlib.Core.Path.{_≡_, ap, _∙_}
 use Prim.Native.Nat.{ℕ, _-_, _≤_}
 use native.Mathlib.Omega.{arith}
 use lib.ListN.{length}
 use lib.Ieee.{nan}
 use borrow.Author.Needs.{needs}
 use Rattle.laws.proofs.Lists.{Filled, filled-more, filled-all}
+use Rattle.measurement_steps.specs.declared.Reading.{Reading}
 use Rattle.measurement_steps.specs.Energy.{energy, bandOf, energies}
+use Rattle.measurement_steps.specs.Peak.{peakOf, peaks, whole}
 use Rattle.measurement_steps.proofs.Filled.{filled-from}
 use Rattle.measurement_steps.proofs.apply_energy_estimation.Statement.{statement}
 use Rattle.measurement_steps.proofs.apply_energy_estimation.Tie as tie
 
 abbrev Inv-loop : tie.InvT-loop
-Inv-loop lines edges out₀ b₀ out b = (b ≤ length out₀) × Filled (λ (k : ℕ). energy (bandOf edges lines k)) out₀ b out
+Inv-loop lines edges out₀ places₀ b₀ out places b =
+    (b ≤ length out₀)
+    × Filled (λ (k : ℕ). energy (bandOf edges lines k)) out₀ b out
+    × Filled (peakOf edges lines) places₀ b places
 
 abbrev μ-loop : tie.MeasureT-loop
-μ-loop lines edges out₀ b₀ out b = length out₀ - b
+μ-loop lines edges out₀ places₀ b₀ out places b = length out₀ - b
 
 singles-requires : tie.Need-singles-requires Inv-loop μ-loop
 singles-requires c κs = search needs
@@ -24,37 +29,33 @@ mul-b : tie.Need-mul-b Inv-loop μ-loop
 mul-b c = search needs
 
 loop-holds : tie.Need-loop-holds Inv-loop μ-loop
-loop-holds c = (omega arith, filled-from _ _ (c .before .before .before .before .before .before .before .args .out .now) _ (c .before .before .singles .ensures .3))
+loop-holds c =
+    let a = c .before .before .before .before .before .before .before .before .before .before .before .args in
+    let first = c .before .before .before .before .singles .ensures in
+    (omega arith, filled-from _ _ (a .out .now) _ (first .3), filled-from _ _ (a .places .now) _ (first .4))
 
 band-requires : tie.Need-band-requires Inv-loop μ-loop
 band-requires c κs =
-    let p = c .before .before .before .before .before .before .before .before .before .pre in
-    let r = p .2 (c .before .loop .b) (omega arith) in
+    let p = c .before .before .before .before .before .before .before .before .before .before .before .before .before .pre in
+    let r = p .3 (c .before .loop .b) (omega arith) in
     (p .0, omega arith, r .0, r .1)
 
-mul-out : tie.Need-mul-out Inv-loop μ-loop
-mul-out c = search needs
-
-slice-write-out : tie.Need-slice-write-out Inv-loop μ-loop
-slice-write-out c = search needs
-
-add-b : tie.Need-add-b Inv-loop μ-loop
-add-b c = search needs
-
-loop-less : tie.Need-loop-less Inv-loop μ-loop
-loop-less c = search needs
-
 loop-again : tie.Need-loop-again Inv-loop μ-loop
-loop-again c = (omega arith, filled-more _ nan (c .before .before .loop .inv .1) (omega arith) (c .band .ensures))
-
-same-length : tie.Need-same-length Inv-loop μ-loop
-same-length c = search needs
+unfolding whole
+loop-again c =
+    let l = c .before .before .loop in
+    let own = c .band .ensures in
+    (omega arith, filled-more _ nan (l .inv .1) (omega arith) (ap (λ (x : Reading). x .energy) own), filled-more _ 0 (l .inv .2) (omega arith) (ap (λ (x : Reading). x .peak) own))
 
 returns : tie.Need-returns Inv-loop μ-loop
-unfolding energies
+unfolding energies peaks
 returns c =
-    let same : length (c .before .before .before .before .singles .last .1 .1 .0) ≡ length (c .before .before .before .before .before .before .before .before .before .args .out .now) = omega arith in
-    rw same at (filled-all (c .before .loop .inv .1) (omega arith))
+    let a = c .before .before .before .before .before .before .before .before .before .before .before .before .before .args in
+    let s = c .before .before .before .before .before .before .singles in
+    let inv = c .before .loop .inv in
+    let same : length (s .last .1 .1 .0) ≡ length (a .out .now) = omega arith in
+    let alike : length (s .last .1 .1 .1 .0) ≡ length (a .out .now) = omega arith in
+    (rw same at (filled-all (inv .1) (omega arith)), rw alike at (filled-all (inv .2) (omega arith)))
 
 pub apply-energy-estimation-spec : {M : Type 1} → statement M
 apply-energy-estimation-spec =
@@ -66,10 +67,13 @@ apply-energy-estimation-spec =
     mul-b
     loop-holds
     band-requires
-    mul-out
-    slice-write-out
-    add-b
-    loop-less
+    (λ c. search needs)
+    (λ c. search needs)
+    (λ c. search needs)
+    (λ c. search needs)
+    (λ c. search needs)
+    (λ c. search needs)
     loop-again
-    same-length
+    (λ c. search needs)
+    (λ c. search needs)
     returns)

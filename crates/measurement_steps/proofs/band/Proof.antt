@@ -1,55 +1,44 @@
--- `band` meets its contract: the energy of the lines between its edges. Assumes nothing.
+-- `band` meets its contract: the lines between its edges, and the peak counted from the first edge on. Assumes nothing.
+use mathlib.Core.Path.{ap}
+use Prim.Native.Nat.{_+_, _-_}
+use native.Mathlib.Omega.{arith}
+use lib.ListN.{getD, drop, length-drop}
+use lib.Seq.{length-take-le}
 use borrow.Author.Needs.{needs}
 use Rattle.measurement_steps.specs.Energy.{bandOf}
+use Rattle.measurement_steps.specs.Peak.{placed}
+use Rattle.measurement_steps.proofs.Peaks.{peak-within}
 use Rattle.measurement_steps.proofs.band.Statement.{statement}
 use Rattle.measurement_steps.proofs.band.Tie as tie
 
-mul-from : tie.Need-mul-from
-mul-from c = search needs
-
-shared-slice-read-from : tie.Need-shared-slice-read-from
-shared-slice-read-from c = search needs
-
-add-to : tie.Need-add-to
-add-to c = search needs
-
-mul-to : tie.Need-mul-to
-mul-to c = search needs
-
-shared-slice-read-to : tie.Need-shared-slice-read-to
-shared-slice-read-to c = search needs
-
-mul-energy : tie.Need-mul-energy
-mul-energy c = search needs
-
-sub-energy : tie.Need-sub-energy
-sub-energy c = search needs
-
-part-energy-start : tie.Need-part-energy-start
-part-energy-start c = search needs
-
-part-energy-end : tie.Need-part-energy-end
-part-energy-end c = search needs
-
-energy-requires : tie.Need-energy-requires
-energy-requires c κs = search needs
+add-t9 : tie.Need-add-t9
+add-t9 c =
+    let s = c .before .before .before .before .before .before .before in
+    let ls = s .args .lines .now in
+    let from = getD (s .args .edges .now) (s .args .b) 0 in
+    let to = getD (s .args .edges .now) (s .args .b + 1) 0 in
+    let long = length-take-le (to - from) (drop from ls) (omega (arith, length-drop from ls)) in
+    record { fits = omega (arith, peak-within _ (c .before .measured .result) (c .before .measured .ensures), long) }
 
 returns : tie.Need-returns
 unfolding bandOf
-returns c = c .energy .ensures
+returns c =
+    let a = c .before .before .before .before .before .before .before .args in
+    ap (placed (getD (a .edges .now) (a .b) 0)) (c .before .measured .ensures)
 
 pub band-spec : {M : Type 1} → statement M
 band-spec =
     tie.close
     (tie.spec
-    mul-from
-    shared-slice-read-from
-    add-to
-    mul-to
-    shared-slice-read-to
-    mul-energy
-    sub-energy
-    part-energy-start
-    part-energy-end
-    energy-requires
+    (λ c. search needs)
+    (λ c. search needs)
+    (λ c. search needs)
+    (λ c. search needs)
+    (λ c. search needs)
+    (λ c. search needs)
+    (λ c. search needs)
+    (λ c. search needs)
+    (λ c. search needs)
+    (λ c κs. search needs)
+    add-t9
     returns)

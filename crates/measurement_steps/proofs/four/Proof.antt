@@ -1,38 +1,42 @@
--- `four` meets its contract: the four shares are those of its stretch. Assumes nothing.
-use native.Mathlib.Nat.{add-zero}
-use native.Mathlib.Omega.{arith}
+-- `four` meets its contract: the four shares are those of its stretch, and the scan takes four turns. Assumes nothing.
+use mathlib.Core.Path.{refl, ap, _∙_}
+use Prim.Native.Nat.{_+_}
 use borrow.Author.Needs.{needs}
-use Rattle.laws.specs.Lists.{tab}
-use Rattle.measurement_steps.proofs.Sums.{stretch}
+use Rattle.measurement_steps.specs.declared.Reading.{Reading}
+use Rattle.measurement_steps.specs.Peak.{higher}
+use Rattle.measurement_steps.proofs.Peaks.{four-is}
 use Rattle.measurement_steps.proofs.four.Statement.{statement}
 use Rattle.measurement_steps.proofs.four.Tie as tie
 
-share-requires : tie.Need-share-requires
-share-requires c κs = search needs
-
-add-share : tie.Need-add-share
-add-share c = search needs
-
-share-requires-2 : tie.Need-share-requires-2
-share-requires-2 c κs = search needs
-
-add-share-2 : tie.Need-add-share-2
-add-share-2 c = search needs
-
-share-requires-3 : tie.Need-share-requires-3
-share-requires-3 c κs = search needs
-
-add-share-3 : tie.Need-add-share-3
-add-share-3 c = search needs
-
-share-requires-4 : tie.Need-share-requires-4
-share-requires-4 c κs = search needs
-
 returns : tie.Need-returns
-unfolding tab
 returns c =
-    let a = c .before .before .before .before .before .args in
-    simp (c .before .before .before .share .ensures, c .before .before .share2 .ensures, c .before .share3 .ensures, c .share4 .ensures, stretch 4 (a .i) (a .lines .now) (omega arith), add-zero)
+    let s = c .before .before .before .before .before .before .before .before .before .before in
+    let a = s .args in
+    let p = c .before .before .before .before .before .before .before .before .square in
+    let q = c .before .before .before .before .before .before .before .square2 in
+    let r = c .before .before .before .before .before .before .square3 in
+    let t = c .before .before .before .before .before .square4 in
+    let i = a .i in
+    c .higher4 .ensures
+    ∙ ap (λ (x : Reading). higher x (i + 3) (t .result)) (c .before .higher3 .ensures ∙ ap (λ (x : Reading). higher x (i + 2) (r .result)) (c .before .before .higher2 .ensures ∙ ap (λ (x : Reading). higher x (i + 1) (q .result)) (c .before .before .before .higher .ensures)))
+    ∙ four-is (a .width) (a .lines .now) i (a .b) (s .pre .1) _ _ _ _ _ (s .pre .0) (p .ensures) (q .ensures) (r .ensures) (t .ensures) refl
 
 pub four-spec : {M : Type 1} → statement M
-four-spec = tie.close (tie.spec share-requires add-share share-requires-2 add-share-2 share-requires-3 add-share-3 share-requires-4 returns)
+four-spec =
+    tie.close
+    (tie.spec
+    (λ c κs. search needs)
+    (λ c. search needs)
+    (λ c κs. search needs)
+    (λ c. search needs)
+    (λ c κs. search needs)
+    (λ c. search needs)
+    (λ c κs. search needs)
+    (λ c κs. search needs)
+    (λ c. search needs)
+    (λ c κs. search needs)
+    (λ c. search needs)
+    (λ c κs. search needs)
+    (λ c. search needs)
+    (λ c κs. search needs)
+    returns)

@@ -11,8 +11,8 @@ use Rattle.measurement_steps.proofs.Sums.{stretch, is-energy}
 use Rattle.measurement_steps.proofs.one.Statement.{statement}
 use Rattle.measurement_steps.proofs.one.Tie as tie
 
-share-requires : tie.Need-share-requires
-share-requires c κs = search needs
+square-requires : tie.Need-square-requires
+square-requires c κs = search needs
 
 returns : tie.Need-returns
 unfolding tab ofBits ofInt
@@ -20,9 +20,9 @@ returns c =
     let i = c .before .before .args .i in
     let ls = c .before .before .args .lines .now in
     is-energy (take 1 (drop i ls)) 1 _ _
-    (simp (c .share .ensures, stretch 1 i ls (omega arith), add-zero))
+    (simp (c .square .ensures, stretch 1 i ls (omega arith), add-zero))
     (length-take-le 1 (drop i ls) (omega (arith, length-drop i ls)))
     refl
 
 pub one-spec : {M : Type 1} → statement M
-one-spec = tie.close (tie.spec share-requires returns)
+one-spec = tie.close (tie.spec square-requires returns)
