@@ -68,6 +68,7 @@ energyLine (x ∷ xs) = areaLine energy (x ∷ xs)
 unfoldable pub peaksLine : List ℕ → List ℕ
 peaksLine z = peaks ++ spaced decimal z ++ newline
 
+-- the energies' line, and after it the peaks': "a last area"
 abbrev pub measuredLines : List Float → List ℕ → List ℕ
 measuredLines y z = areaLine energies y ++ peaksLine z
 
