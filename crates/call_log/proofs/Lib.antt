@@ -1,3 +1,4 @@
 pub mod Fields
 pub mod Opened
 pub mod Counts
+pub mod Areas

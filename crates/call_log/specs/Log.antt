@@ -42,13 +42,18 @@ floatOf b i = ofBits binary32 (word (drop (2 + 4 * i) b))
 abbrev pub before : ℕ → Float
 before i = add binary32 (ofInt binary32 (pos i)) (ofBits binary32 0x3f000000)
 
+-- "Before each call place i of a peaks' area holds i + 7"
+abbrev pub beforePeak : ℕ → ℕ
+beforePeak i = i + 7
+
 -- ---- the header: "shorter than 5 bytes: refused 8; wrong mark: refused 9; another version: refused 10"
 -- "Three bytes LMC"
 unfoldable pub marked : List ℕ → Bool
 marked b = eqb (getD b 0 0) 0x4c && (eqb (getD b 1 0) 0x4d && eqb (getD b 2 0) 0x43)
 
+-- "replay takes the current one alone", which with the peaks is version 2
 unfoldable pub headerOf : List ℕ → Header
-headerOf b = cond (ltb (length b) 5) Short (cond (marked b) (cond (eqb (short (drop 3 b)) 1) Good Foreign) Unmarked)
+headerOf b = cond (ltb (length b) 5) Short (cond (marked b) (cond (eqb (short (drop 3 b)) 2) Good Foreign) Unmarked)
 
 -- the paper's number for each case
 abbrev pub headerNumber : Header → ℕ
@@ -57,12 +62,13 @@ headerNumber Short = shortFile
 headerNumber Unmarked = badMark
 headerNumber Foreign = badVersion
 
--- ---- the calls: six fields each, kind after kind from 0 (no call) to 12; "a count or a length is 16 bits and at most 1,024"
+-- ---- the calls: six fields each, kind after kind from 0 (no call) to 12; "a count or a length is 16 bits and at most 1,024"; 2 and 12 have "at the end the
+-- length of the peaks' area"
 unfoldable pub rows : List Field
 rows =
     Unknown ∷ Nothing ∷ Nothing ∷ Nothing ∷ Nothing ∷ Nothing ∷
     Byte ∷ Nothing ∷ Nothing ∷ Nothing ∷ Nothing ∷ Nothing ∷
-    Samples 1024 ∷ Length ∷ Length ∷ Nothing ∷ Nothing ∷ Nothing ∷
+    Samples 1024 ∷ Length ∷ Length ∷ Length ∷ Nothing ∷ Nothing ∷
     Byte ∷ Nothing ∷ Nothing ∷ Nothing ∷ Nothing ∷ Nothing ∷
     Floats 1024 ∷ Length ∷ Nothing ∷ Nothing ∷ Nothing ∷ Nothing ∷
     Number ∷ Flag ∷ Floats 1024 ∷ Floats 1024 ∷ Length ∷ Length ∷
@@ -72,7 +78,7 @@ rows =
     Byte ∷ Samples 300 ∷ Nothing ∷ Nothing ∷ Nothing ∷ Nothing ∷
     Byte ∷ Floats 300 ∷ Nothing ∷ Nothing ∷ Nothing ∷ Nothing ∷
     Samples 1024 ∷ Length ∷ Nothing ∷ Nothing ∷ Nothing ∷ Nothing ∷
-    Byte ∷ Floats 1024 ∷ Length ∷ Nothing ∷ Nothing ∷ Nothing ∷ []
+    Byte ∷ Floats 1024 ∷ Length ∷ Length ∷ Nothing ∷ Nothing ∷ []
 
 -- field i of a call of a kind
 unfoldable pub fieldOf : ℕ → ℕ → Field

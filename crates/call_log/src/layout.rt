@@ -35,7 +35,7 @@ const ROWS: [Field; 78] = [
     Field::Samples(1024),
     Field::Length,
     Field::Length,
-    Field::Nothing,
+    Field::Length,
     Field::Nothing,
     Field::Nothing,
     // 3: clear of the synthesis channel
@@ -105,7 +105,7 @@ const ROWS: [Field; 78] = [
     Field::Byte,
     Field::Floats(1024),
     Field::Length,
-    Field::Nothing,
+    Field::Length,
     Field::Nothing,
     Field::Nothing,
 ];

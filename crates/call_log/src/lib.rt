@@ -5,7 +5,7 @@ ghost use Prim.Native.Nat.{_+_, _*_, _≤_, _<_, min};
 ghost use lib.ListN.{length, getD, drop, replicate};
 ghost use lib.Ieee.{ofBits, binary32};
 ghost use Rattle.laws.specs.Lists.{tab};
-ghost use Rattle.call_log.specs.Log.{short, word, Places, sampleOf, floatOf, before, marked, headerOf, headerNumber, fieldOf, within, listed, fieldTaken, callTaken};
+ghost use Rattle.call_log.specs.Log.{short, word, Places, sampleOf, floatOf, before, beforePeak, marked, headerOf, headerNumber, fieldOf, within, listed, fieldTaken, callTaken};
 
 mod layout; // layout.rt: the fields of each kind of call
 
@@ -96,6 +96,15 @@ pub fn count_samples(b: &[u8], places: &[i16]) -> usize
     if n < places.len() { n } else { places.len() }
 }
 
+// The same of places for peaks.
+pub fn count_places(b: &[u8], peaks: &[usize]) -> usize
+    ensures { λ r. ⌜ r ≡ min (short (now (b .entry))) (length (now (peaks .entry))) ⌝ }
+    ensures { λ r. ⌜ Places r (now (peaks .entry)) ⌝ }
+{
+    let n = short(b) as usize;
+    if n < peaks.len() { n } else { peaks.len() }
+}
+
 // The samples after the count at the front of b, as many as out has places.
 pub fn samples(b: &[u8], out: &mut [i16])
     ensures { λ _. ⌜ now (out .exit) ≡ tab (length (now (out .entry))) (sampleOf (now (b .entry))) ⌝ }
@@ -139,6 +148,27 @@ pub fn area() -> [f32; 1024]
     out
 }
 
+// Room for peaks.
+fn zero_places() -> [usize; 1024]
+    ensures { λ r. ⌜ r ≡ replicate 1024 0 ⌝ }
+{
+    [0usize; 1024]
+}
+
+// A peaks' area as it is before a call.
+pub fn peaks() -> [usize; 1024]
+    ensures { λ r. ⌜ r ≡ tab 1024 beforePeak ⌝ }
+    ensures { λ r. ⌜ 1024 ≡ length r ⌝ }
+{
+    let mut out = zero_places();
+    let mut i = 0;
+    while i < out.len() {
+        out[i] = i + 7;
+        i += 1;
+    }
+    out
+}
+
 // Whether the first three bytes are the mark.
 fn marked(b: &[u8]) -> bool
     ensures { λ r. ⌜ r ≡ marked (now (b .entry)) ⌝ }
@@ -162,7 +192,7 @@ pub fn read_header(b: &[u8]) -> Header
     if !marked(b) {
         return Header::Unmarked;
     }
-    if short(rest(b, 3)) != 1 {
+    if short(rest(b, 3)) != 2 {
         return Header::Foreign;
     }
     Header::Good

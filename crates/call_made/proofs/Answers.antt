@@ -28,18 +28,33 @@ use Rattle.loudest.specs.declared.Loudest.{Loudest}
 use Rattle.call_made.specs.declared.Answer.{Answer}
 use Rattle.call_made.specs.declared.Analysed.{Analysed}
 use Rattle.call_made.specs.declared.Played.{Played}
-use Rattle.call_made.specs.Made.{count, area, lent, answerOf, one, plain, analysed, played, frameOn, measureOn, measureAfter, playOn, fftOn, dct, told, loudestOn}
+use Rattle.call_made.specs.Made.{count, area, peaks, lent, answerOf, withPeaks, one, plain, analysed, played, frameOn, measureOn, measureAfter, playOn, fftOn, dct, told, loudestOn}
 use Rattle.call_made.proofs.Lends.{Lends}
 
--- n places of an output area
+-- n places of an output area, and of peaks
 abbrev pub Area : List ℕ → ℕ → List Float → Type 0
 Area = Lends 1024 area
 
+abbrev pub Peaks : List ℕ → ℕ → List ℕ → Type 0
+Peaks = Lends 1024 peaks
+
 -- a call on x, with m places of a room lent: `make` is its answer, from what the call gave
 module _ {X G R : Type 0} (call : X → List Float → G) (make : G → ℕ → List Float → R) where
-  lent-is : {x y : X} {l : List ℕ} {m : ℕ} {room : List Float} {g : G} → y ≡ x → Area l m room → call y (take m room) ≡ g → make g m room ≡ make (call x (lent l)) (count l) area
+  lent-is : {x y : X} {l : List ℕ} {m : ℕ} {room : List Float} {g : G} → y ≡ x → Area l m room → call y (take m room) ≡ g → make g m room ≡ make (call x (lent area l)) (count l) area
   lent-is {m = m} {room = room} ex u e =
       ap (λ (g : G). make g m room) (sym e) ∙ (λ j. make (call (ex j) (take (u .asked j) (u .new j))) (u .asked j) (u .new j))
+
+-- the same with places of two rooms lent; `made` is the call as the code makes it
+module _ {A G R : Type 0} {fresh : List A} (make : G → ℕ → List Float → ℕ → List A → R) where
+  both-lent : {call made : List Float → List A → G} {k l : List ℕ} {m n : ℕ} {room : List Float} {other : List A} {g : G}
+      → made ≡ call
+      → Area k m room
+      → Lends 1024 fresh l n other
+      → made (take m room) (take n other) ≡ g
+      → make g m room n other ≡ make (call (lent area k) (lent fresh l)) (count k) area (count l) fresh
+  both-lent {m = m} {n = n} {room = room} {other = other} ec u v e =
+      ap (λ (g : G). make g m room n other) (sym e)
+      ∙ (λ j. make (ec j (take (u .asked j) (u .new j)) (take (v .asked j) (v .new j))) (u .asked j) (u .new j) (v .asked j) (v .new j))
 
 -- 4: with what a frame gave
 abbrev playedAs : sy.Given × sy-channel.Channel → ℕ → List Float → Played
@@ -62,17 +77,18 @@ unfolding frameOn
 framed-is ch r out ex u e ea = ap (analysed (r .channel)) ea ∙ lent-is (λ y p. an.frames ch (an.lent y p)) framedAs ex u e
 
 -- 12: with what a measurement gave
-abbrev measuredAs : me.Given → ℕ → List Float → Answer
-measuredAs g m room = one (g .number) (g .index) (Flag (g .flag)) (g .energies ++ drop m room) m
+abbrev measuredAs : me.Given → ℕ → List Float → ℕ → List ℕ → Answer
+measuredAs g m room o places = withPeaks (g .number) (g .index) (Flag (g .flag)) (g .energies ++ drop m room) m (g .peaks ++ drop o places) o
 
-pub measured-is : (c : ℕ) (x : List Float) {l : List ℕ} {m : ℕ} {room : List Float} (r : Measured) (out : List Float) {a : Answer} →
-    Area l m room → me.outcome r out ≡ me.measures c (me.lent x (take m room)) →
-    a ≡ one (r .number) (r .index) (Flag (r .flag)) (out ++ drop m room) m → a ≡ measureOn c x l
+pub measured-is : (c : ℕ) (x : List Float) {l : List ℕ} {m o : ℕ} {room : List Float} {places : List ℕ} (r : Measured) (out : List Float) (tops : List ℕ) {a : Answer} →
+    Area l m room → Peaks (drop 2 l) o places → me.outcome r out tops ≡ me.measures c (me.lent x (take m room) (take o places)) →
+    a ≡ measuredAs (me.outcome r out tops) m room o places → a ≡ measureOn c x l
 unfolding measureOn
-measured-is c x r out u e ea = ea ∙ lent-is (λ y p. me.measures c (me.lent y p)) measuredAs (λ _. x) u (sym e)
+measured-is c x r out tops u v e ea = ea ∙ both-lent measuredAs (λ _ p q. me.measures c (me.lent x p q)) u v (sym e)
 
 -- 2: the measurement after a frame's answer
-pub unmeasured-is : (c : ℕ) (a : Answer) (l : List ℕ) → (a .number ≡ 0 → ⊥) → one (a .number) (a .index) (Flag false) area (count l) ≡ measureAfter c a l
+pub unmeasured-is : (c : ℕ) (a : Answer) (l : List ℕ) → (a .number ≡ 0 → ⊥) →
+    withPeaks (a .number) (a .index) (Flag false) area (count l) peaks (count (drop 2 l)) ≡ measureAfter c a l
 unfolding measureAfter
 unmeasured-is c a l h = simp (ne-eqb (a .number) 0 h)
 
@@ -81,16 +97,16 @@ unfolding measureAfter
 measured-after c a l h = simp (eq-eqb (a .number) 0 h)
 
 -- 5: with what the transform gave
-abbrev transformedAs : ft.Answer → ℕ → List Float → ℕ → List Float → Answer
-transformedAs a m room n other = answerOf (a .judged .number) (a .judged .index) Nothing (a .re ++ drop m room) m (a .im ++ drop n other) n
+abbrev transformedAs : List ℕ → ft.Answer → ℕ → List Float → ℕ → List Float → Answer
+transformedAs z a m room n other = answerOf (a .judged .number) (a .judged .index) Nothing (a .re ++ drop m room) m (a .im ++ drop n other) n z 0
 
-pub transformed-is : (b : List ℕ) (x : List Float) {y w : List Float} {l : List ℕ} {m n size : ℕ} {room other : List Float} {inverse : Bool} (r : Verdict) (p q : List Float) →
-    size ≡ short (drop 1 b) → inverse ≡ eqb (getD b 3 0) 1 → w ≡ y → Area l m room → Area (drop 2 l) n other →
-    ft.left r p q ≡ ft.answer size inverse x w (take m room) (take n other) → transformedAs (ft.left r p q) m room n other ≡ fftOn b x y l
+pub transformed-is : (b : List ℕ) (x : List Float) {y w : List Float} {l z : List ℕ} {m n size : ℕ} {room other : List Float} {inverse : Bool} (r : Verdict) (p q : List Float) →
+    size ≡ short (drop 1 b) → inverse ≡ eqb (getD b 3 0) 1 → w ≡ y → Area l m room → Area (drop 2 l) n other → z ≡ peaks →
+    ft.left r p q ≡ ft.answer size inverse x w (take m room) (take n other) → transformedAs z (ft.left r p q) m room n other ≡ fftOn b x y l
 unfolding fftOn
-transformed-is b x {m = m} {n = n} {room = room} {other = other} r p q es ei ey u v e =
-    ap (λ (a : ft.Answer). transformedAs a m room n other) e
-    ∙ (λ j. transformedAs (ft.answer (es j) (ei j) x (ey j) (take (u .asked j) (u .new j)) (take (v .asked j) (v .new j))) (u .asked j) (u .new j) (v .asked j) (v .new j))
+transformed-is b x {m = m} {n = n} {room = room} {other = other} r p q es ei ey u v ez e =
+    ap (λ (z : List ℕ). transformedAs z (ft.left r p q) m room n other) ez
+    ∙ both-lent (transformedAs peaks) (λ j p q. ft.answer (es j) (ei j) x (ey j) p q) u v (sym e)
 
 -- 6: with what the DCT left
 abbrev turnedAs : dc.Answer → ℕ → List Float → Answer

@@ -7,7 +7,7 @@ use lib.Dec.{eqb}
 use lib.ListN.{getD, take, drop, set, replicate}
 use lib.Ieee.{Float, binary32, ofBits}
 use Rattle.laws.specs.Lists.{tab}
-use Rattle.call_log.specs.Log.{short, sampleOf, floatOf, before}
+use Rattle.call_log.specs.Log.{short, sampleOf, floatOf, before, beforePeak}
 use Rattle.call_text.specs.declared.Extra.{Extra}
 use Rattle.call_text.specs.declared.Extra.the-variants.{Nothing, Flag, Band}
 use Rattle.kissfft.specs.Fft as ft
@@ -50,21 +50,28 @@ pastFloats b = drop (2 + 4 * count b) b
 abbrev pub area : List Float
 area = tab 1024 before
 
--- the part of it that a length at the front of b lends
-abbrev pub lent : List ℕ → List Float
-lent b = take (count b) area
+-- a peaks' area before a call
+abbrev pub peaks : List ℕ
+peaks = tab 1024 beforePeak
+
+-- the part of an area that a length at the front of b lends
+abbrev pub lent : {A : Type 0} → List A → List ℕ → List A
+lent area b = take (count b) area
 
 -- the area when that part has become x
-abbrev pub whole : List ℕ → List Float → List Float
-whole b x = x ++ drop (count b) area
+abbrev pub whole : {A : Type 0} → List A → List ℕ → List A → List A
+whole area b x = x ++ drop (count b) area
 
 -- ---- the answers
-abbrev pub answerOf : ℕ → ℕ → Extra → List Float → ℕ → List Float → ℕ → Answer
-answerOf number index e x m y n = record { number = number; index = index; extra = e; x = x; m = m; y = y; n = n }
+abbrev pub answerOf : ℕ → ℕ → Extra → List Float → ℕ → List Float → ℕ → List ℕ → ℕ → Answer
+answerOf number index e x m y n z o = record { number = number; index = index; extra = e; x = x; m = m; y = y; n = n; z = z; o = o }
 
--- with one output area, and with none
+-- with one output area and peaks, with one, and with none
+abbrev pub withPeaks : ℕ → ℕ → Extra → List Float → ℕ → List ℕ → ℕ → Answer
+withPeaks number index e x m z o = answerOf number index e x m area 0 z o
+
 abbrev pub one : ℕ → ℕ → Extra → List Float → ℕ → Answer
-one number index e x m = answerOf number index e x m area 0
+one number index e x m = withPeaks number index e x m peaks 0
 
 abbrev pub plain : ℕ → Answer
 plain number = one number 0 Nothing area 0
@@ -86,30 +93,31 @@ clearSynthesis old b = let c = sy.cleared (getD b 1 0) in played (cond (eqb (c .
 -- 11: "the frame to lines alone": on the samples x, with the length of the lines' area at the front of l
 unfoldable pub frameOn : an-channel.Channel → List ℤ → List ℕ → Analysed
 frameOn ch x l =
-    let f = an.frames ch (an.lent x (lent l)) in
-    analysed (f .1) (one (f .0 .number) 0 Nothing (whole l (f .0 .lines)) (count l))
+    let f = an.frames ch (an.lent x (lent area l)) in
+    analysed (f .1) (one (f .0 .number) 0 Nothing (whole area l (f .0 .lines)) (count l))
 
 abbrev pub frame : an-channel.Channel → List ℕ → Analysed
 frame ch b = frameOn ch (samples (drop 1 b)) (pastSamples (drop 1 b))
 
--- 12: "the measurement alone": at the configuration c, of the lines x, with the length of the energies' area at the front of l
+-- 12: "the measurement alone": at the configuration c, of the lines x, with the lengths of the energies' and the peaks' areas at the front of l
 unfoldable pub measureOn : ℕ → List Float → List ℕ → Answer
 measureOn c x l =
-    let g = me.measures c (me.lent x (lent l)) in
-    one (g .number) (g .index) (Flag (g .flag)) (whole l (g .energies)) (count l)
+    let g = me.measures c (me.lent x (lent area l) (lent peaks (drop 2 l))) in
+    withPeaks (g .number) (g .index) (Flag (g .flag)) (whole area l (g .energies)) (count l) (whole peaks (drop 2 l) (g .peaks)) (count (drop 2 l))
 
 abbrev pub measure : List ℕ → Answer
 measure b = measureOn (getD b 1 0) (floats (drop 2 b)) (pastFloats (drop 2 b))
 
 -- 2: "both in turn: the frame to lines, and where that is accepted the measurement of its lines at the channel's configuration". The second, after a
--- frame's answer a, whose lines are the places of its area: where the frame was refused no call, and the energies' area untouched
+-- frame's answer a, whose lines are the places of its area: where the frame was refused no call, and the areas of energies and peaks untouched
 unfoldable pub measureAfter : ℕ → Answer → List ℕ → Answer
 measureAfter c a l =
-    cond (eqb (a .number) 0) (measureOn c (take (a .m) (a .x)) l) (one (a .number) (a .index) (Flag false) area (count l))
+    cond (eqb (a .number) 0) (measureOn c (take (a .m) (a .x)) l)
+    (withPeaks (a .number) (a .index) (Flag false) area (count l) peaks (count (drop 2 l)))
 
 -- "NUMBER and INDEX are those of the first of the two calls that is refused, else 0; areas as the calls left them"
 abbrev pub both : Answer → Answer → Answer
-both a g = answerOf (g .number) (g .index) (g .extra) (a .x) (a .m) (g .x) (g .m)
+both a g = answerOf (g .number) (g .index) (g .extra) (a .x) (a .m) (g .x) (g .m) (g .z) (g .o)
 
 unfoldable pub analyse : an-channel.Channel → List ℕ → Analysed
 analyse ch b =
@@ -119,8 +127,8 @@ analyse ch b =
 -- 4: on the lines x, with the length of the area at the front of l
 unfoldable pub playOn : sy-channel.Channel → List Float → List ℕ → Played
 playOn ch x l =
-    let f = sy.frames ch (sy.lent x (lent l)) in
-    played (f .1) (one (f .0 .number) (f .0 .index) Nothing (whole l (f .0 .samples)) (count l))
+    let f = sy.frames ch (sy.lent x (lent area l)) in
+    played (f .1) (one (f .0 .number) (f .0 .index) Nothing (whole area l (f .0 .samples)) (count l))
 
 abbrev pub play : sy-channel.Channel → List ℕ → Played
 play ch b = playOn ch (floats (drop 1 b)) (pastFloats (drop 1 b))
@@ -128,8 +136,8 @@ play ch b = playOn ch (floats (drop 1 b)) (pastFloats (drop 1 b))
 -- 5: of the real parts x and the imaginary parts y, with the lengths of the two areas at the front of l
 unfoldable pub fftOn : List ℕ → List Float → List Float → List ℕ → Answer
 fftOn b x y l =
-    let a = ft.answer (short (drop 1 b)) (eqb (getD b 3 0) 1) x y (lent l) (lent (drop 2 l)) in
-    answerOf (a .judged .number) (a .judged .index) Nothing (whole l (a .re)) (count l) (whole (drop 2 l) (a .im)) (count (drop 2 l))
+    let a = ft.answer (short (drop 1 b)) (eqb (getD b 3 0) 1) x y (lent area l) (lent area (drop 2 l)) in
+    answerOf (a .judged .number) (a .judged .index) Nothing (whole area l (a .re)) (count l) (whole area (drop 2 l) (a .im)) (count (drop 2 l)) peaks 0
 
 abbrev pub fft : List ℕ → Answer
 fft b = let x = drop 4 b in let y = pastFloats x in fftOn b (floats x) (floats y) (pastFloats y)
@@ -139,7 +147,7 @@ unfoldable pub dct : List ℕ → Answer
 dct b =
     let x = drop 3 b in
     let a = dc.answer (short (drop 1 b)) (floats x) in
-    one (a .judged .number) (a .judged .index) Nothing (whole x (a .held)) (count x)
+    one (a .judged .number) (a .judged .index) Nothing (whole area x (a .held)) (count x)
 
 -- 7: the area has the energy, where it is loud
 abbrev pub told : Heard → Loudest → Answer

@@ -6,11 +6,11 @@ ghost use lib.ListN.{length, drop, replicate};
 ghost use Rattle.laws.specs.Lists.{tab};
 ghost use Rattle.call_log.specs.Log.{short, Places, sampleOf, floatOf};
 ghost use Rattle.dct_iv.specs.DctIv as dc;
-ghost use Rattle.call_made.specs.Made.{floats, pastFloats, pastSamples, one, plain, clearAnalysis, clearSynthesis, frameOn, frame, measureOn, measure, measureAfter, both, analyse, playOn, play, fftOn, fft, dct, loudestOn, loudest, setAnalysis, setSynthesis, withAnalysis, withSynthesis, withAnswer, fresh, onNone, onSynthesis, made};
+ghost use Rattle.call_made.specs.Made.{floats, pastFloats, pastSamples, withPeaks, one, plain, clearAnalysis, clearSynthesis, frameOn, frame, measureOn, measure, measureAfter, both, analyse, playOn, play, fftOn, fft, dct, loudestOn, loudest, setAnalysis, setSynthesis, withAnalysis, withSynthesis, withAnswer, fresh, onNone, onSynthesis, made};
 use call_text::Extra;
 use loudest::Loudest;
 
-// What a call answers: the numbers of its first line, and its output areas, m places of x and n of y.
+// What a call answers: the numbers of its first line, and its output areas, m places of x, n of y and o of the peaks z.
 pub struct Answer {
     pub number: u8,
     pub index: usize,
@@ -19,6 +19,8 @@ pub struct Answer {
     pub m: usize,
     pub y: [f32; 1024],
     pub n: usize,
+    pub z: [usize; 1024],
+    pub o: usize,
 }
 
 // A channel after a call, and the answer.
@@ -87,6 +89,21 @@ fn plain(number: u8) -> Answer
 fn one_area(number: u8, index: usize, extra: Extra, x: [f32; 1024], m: usize) -> Answer
     ensures { λ r. ⌜ r ≡ one number index extra x m ⌝ }
 {
+    with_peaks(number, index, extra, x, m, call_log::peaks(), 0)
+}
+
+// The same with peaks, o places of z.
+fn with_peaks(
+    number: u8,
+    index: usize,
+    extra: Extra,
+    x: [f32; 1024],
+    m: usize,
+    z: [usize; 1024],
+    o: usize,
+) -> Answer
+    ensures { λ r. ⌜ r ≡ withPeaks number index extra x m z o ⌝ }
+{
     Answer {
         number,
         index,
@@ -95,6 +112,8 @@ fn one_area(number: u8, index: usize, extra: Extra, x: [f32; 1024], m: usize) ->
         m,
         y: call_log::area(),
         n: 0,
+        z,
+        o,
     }
 }
 
@@ -163,14 +182,18 @@ fn measure_on(config: u8, lines: &[f32], lengths: &[u8]) -> Answer
     ensures { λ r. ⌜ r ≡ measureOn config (now (lines .entry)) (now (lengths .entry)) ⌝ }
 {
     let mut x = call_log::area();
+    let mut z = call_log::peaks();
     let m = call_log::count_floats(lengths, &x);
-    let measured = measurement::measure(config, lines, &mut x[..m]);
-    one_area(
+    let o = call_log::count_places(call_log::rest(lengths, 2), &z);
+    let measured = measurement::measure(config, lines, &mut x[..m], &mut z[..o]);
+    with_peaks(
         measured.number,
         measured.index,
         Extra::Flag(measured.flag),
         x,
         m,
+        z,
+        o,
     )
 }
 
@@ -195,12 +218,14 @@ fn measure_after(config: u8, framed: Answer, lengths: &[u8]) -> Answer
     ensures { λ r. ⌜ r ≡ measureAfter config framed (now (lengths .entry)) ⌝ }
 {
     if framed.number != 0 {
-        return one_area(
+        return with_peaks(
             framed.number,
             framed.index,
             Extra::Flag(false),
             call_log::area(),
             call_log::count(lengths),
+            call_log::peaks(),
+            call_log::count(call_log::rest(lengths, 2)),
         );
     }
     let x = framed.x;
@@ -214,6 +239,7 @@ fn both(first: Answer, second: Answer) -> Answer
 {
     let x = first.x;
     let y = second.x;
+    let z = second.z;
     let extra = second.extra;
     Answer {
         number: second.number,
@@ -223,6 +249,8 @@ fn both(first: Answer, second: Answer) -> Answer
         m: first.m,
         y,
         n: second.m,
+        z,
+        o: second.o,
     }
 }
 
@@ -307,6 +335,8 @@ fn fft_imag(b: &[u8], parts: &[u8], re: &[f32], im: &mut [f32]) -> Answer
         m,
         y,
         n,
+        z: call_log::peaks(),
+        o: 0,
     }
 }
 

@@ -8,6 +8,7 @@ use native.Mathlib.Omega.{arith}
 use lib.ListN.{length, getD, drop, set, drop-of-length-le}
 use lib.Seq.{drop-cons}
 use borrow.Author.Tests.{lt-ltb, le-ltb}
+use Rattle.plain_text.specs.Text.{newline}
 use Rattle.call_text.specs.Page.{Page, page, put, written}
 use Rattle.call_text.specs.Lines.{each}
 
@@ -71,6 +72,15 @@ module _ {A : Type 0} {f : A → List ℕ} {x : List A} where
   pub done : {out₀ : List ℕ} {k₀ : ℕ} {out : List ℕ} {k i : ℕ} → Going f x out₀ k₀ out k i → length x ≤ i → page out k ≡ written (page out₀ k₀) (each f x)
   unfolding each written
   done {out = out} {k = k} g h = ap (λ (l : List A). written (page out k) (each f l)) (sym (drop-of-length-le x h)) ∙ g .left
+
+  -- and the line's end after it
+  pub ended :
+      {out₀ : List ℕ} {k₀ : ℕ} {out : List ℕ} {k i : ℕ} {p : Page}
+      → Going f x out₀ k₀ out k i
+      → length x ≤ i
+      → p ≡ written (page out k) newline
+      → p ≡ written (page out₀ k₀) (each f x ++ newline)
+  ended {out₀} {k₀} g h e = two (page out₀ k₀) (each f x) newline (done g h) e
 
 -- bytes are their own texts
 abbrev pub byte : ℕ → List ℕ

@@ -41,6 +41,9 @@ lines = 0x6c ∷ 0x69 ∷ 0x6e ∷ 0x65 ∷ 0x73 ∷ []
 abbrev pub energies : List ℕ
 energies = 0x65 ∷ 0x6e ∷ 0x65 ∷ 0x72 ∷ 0x67 ∷ 0x69 ∷ 0x65 ∷ 0x73 ∷ []
 
+abbrev pub peaks : List ℕ
+peaks = 0x70 ∷ 0x65 ∷ 0x61 ∷ 0x6b ∷ 0x73 ∷ []
+
 abbrev pub samples : List ℕ
 samples = 0x73 ∷ 0x61 ∷ 0x6d ∷ 0x70 ∷ 0x6c ∷ 0x65 ∷ 0x73 ∷ []
 
@@ -61,16 +64,24 @@ abbrev pub energyLine : List Float → List ℕ
 energyLine [] = []
 energyLine (x ∷ xs) = areaLine energy (x ∷ xs)
 
--- "kind 2 `lines`, `energies`; 4 `samples`; 5 `real`, `imag`; 6 `buffer`; 7, when loud, `energy`", "Kind 11: .. area `lines`. Kind 12: .. area `energies`":
--- the lines of the areas x and y
-abbrev pub areaLines : ℕ → List Float → List Float → List ℕ
-areaLines kind x y =
-    cond (eqb kind 2) (areaLine lines x ++ areaLine energies y)
+-- "a last area `peaks`, its places in decimal"
+unfoldable pub peaksLine : List ℕ → List ℕ
+peaksLine z = peaks ++ spaced decimal z ++ newline
+
+-- the energies' line, and after it the peaks': "a last area"
+abbrev pub measuredLines : List Float → List ℕ → List ℕ
+measuredLines y z = areaLine energies y ++ peaksLine z
+
+-- "kind 2 `lines`, `energies`; 4 `samples`; 5 `real`, `imag`; 6 `buffer`; 7, when loud, `energy`", "Kind 11: .. area `lines`. Kind 12: .. area `energies`",
+-- "kinds 2 and 12 have a last area `peaks`": the lines of the areas x, y and z
+abbrev pub areaLines : ℕ → List Float → List Float → List ℕ → List ℕ
+areaLines kind x y z =
+    cond (eqb kind 2) (areaLine lines x ++ measuredLines y z)
     (cond (eqb kind 4) (areaLine samples x)
     (cond (eqb kind 5) (areaLine real x ++ areaLine imag y)
     (cond (eqb kind 6) (areaLine buffer x)
     (cond (eqb kind 7) (energyLine x)
-    (cond (eqb kind 11) (areaLine lines x) (cond (eqb kind 12) (areaLine energies x) []))))))
+    (cond (eqb kind 11) (areaLine lines x) (cond (eqb kind 12) (measuredLines x z) []))))))
 
 -- a word and a number, as `stopped K`
 unfoldable pub worded : List ℕ → ℕ → List ℕ
@@ -105,8 +116,8 @@ unfoldable pub answer : ℕ → ℕ → Extra → List ℕ
 answer number index e = numbers number index ++ extra e ++ newline
 
 -- "For each call a line .. Then a line for each output area"
-unfoldable pub callText : ℕ → ℕ → ℕ → ℕ → Extra → List Float → List Float → List ℕ
-callText count kind number index e x y = numbers count kind ++ answer number index e ++ areaLines kind x y
+unfoldable pub callText : ℕ → ℕ → ℕ → ℕ → Extra → List Float → List Float → List ℕ → List ℕ
+callText count kind number index e x y z = numbers count kind ++ answer number index e ++ areaLines kind x y z
 
 -- "8 `analysis C` and every sample of the array in decimal, `synthesis C` and every place of the memory in hex"
 unfoldable pub showText : ℕ → ℕ → List ℤ → ℕ → List Float → List ℕ

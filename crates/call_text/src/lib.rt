@@ -9,7 +9,7 @@ ghost use lib.ListN.{length, take};
 ghost use Rattle.io.specs.Digits.{digits};
 ghost use Rattle.plain_text.specs.Text.{space, newline, decimal};
 ghost use Rattle.call_text.specs.Page.{page, written};
-ghost use Rattle.call_text.specs.Lines.{value, sign, sample, spaced, worded, numbers, extra, answer, areaLine, energyLine, areaLines, callText, analysisLine, synthesisLine, showText, lastLine};
+ghost use Rattle.call_text.specs.Lines.{lines, value, sign, sample, spaced, worded, numbers, extra, answer, areaLine, peaksLine, measuredLines, energyLine, areaLines, callText, analysisLine, synthesisLine, showText, lastLine};
 
 // What a call's first line says last: nothing, the flag of a measurement, the loudest band.
 pub enum Extra {
@@ -123,6 +123,27 @@ fn put_samples(out: &mut [u8], at: usize, x: &[i16]) -> usize
     put(out, k, b'\n')
 }
 
+// A space and a peak.
+fn put_place(out: &mut [u8], at: usize, n: usize) -> usize
+    ensures { λ r. ⌜ page (now (out .exit)) r ≡ written (page (now (out .entry)) at) (space ++ decimal n) ⌝ }
+{
+    let k = put(out, at, b' ');
+    put_decimal(out, k, n as u64)
+}
+
+// The peaks of a measurement, and the line's end.
+fn put_places(out: &mut [u8], at: usize, z: &[usize]) -> usize
+    ensures { λ r. ⌜ page (now (out .exit)) r ≡ written (page (now (out .entry)) at) (spaced decimal (now (z .entry)) ++ newline) ⌝ }
+{
+    let mut k = at;
+    let mut i = 0;
+    while i < z.len() {
+        k = put_place(out, k, z[i]);
+        i += 1;
+    }
+    put(out, k, b'\n')
+}
+
 // A word, a space and a number.
 fn put_worded(out: &mut [u8], at: usize, word: &[u8], n: u64) -> usize
     ensures { λ r. ⌜ page (now (out .exit)) r ≡ written (page (now (out .entry)) at) (worded (now (word .entry)) n) ⌝ }
@@ -176,6 +197,30 @@ fn put_area(out: &mut [u8], at: usize, name: &[u8], x: &[f32]) -> usize
     put_values(out, k, x)
 }
 
+// The peaks' line.
+fn put_peaks(out: &mut [u8], at: usize, z: &[usize]) -> usize
+    ensures { λ r. ⌜ page (now (out .exit)) r ≡ written (page (now (out .entry)) at) (peaksLine (now (z .entry))) ⌝ }
+{
+    let k = put_bytes(out, at, b"peaks");
+    put_places(out, k, z)
+}
+
+// The lines of a measurement.
+fn put_measured(out: &mut [u8], at: usize, y: &[f32], z: &[usize]) -> usize
+    ensures { λ r. ⌜ page (now (out .exit)) r ≡ written (page (now (out .entry)) at) (measuredLines (now (y .entry)) (now (z .entry))) ⌝ }
+{
+    let k = put_area(out, at, b"energies", y);
+    put_peaks(out, k, z)
+}
+
+// The lines of a frame and its measurement.
+fn put_analysed(out: &mut [u8], at: usize, x: &[f32], y: &[f32], z: &[usize]) -> usize
+    ensures { λ r. ⌜ page (now (out .exit)) r ≡ written (page (now (out .entry)) at) (areaLine lines (now (x .entry)) ++ measuredLines (now (y .entry)) (now (z .entry))) ⌝ }
+{
+    let k = put_area(out, at, b"lines", x);
+    put_measured(out, k, y, z)
+}
+
 // An analysis channel's line.
 fn put_analysis(out: &mut [u8], at: usize, config: u8, samples: &[i16]) -> usize
     ensures { λ r. ⌜ page (now (out .exit)) r ≡ written (page (now (out .entry)) at) (analysisLine config (now (samples .entry))) ⌝ }
@@ -211,38 +256,49 @@ fn put_energy(out: &mut [u8], at: usize, x: &[f32]) -> usize
 }
 
 // The lines of the areas that a call of a kind has.
-fn put_areas(out: &mut [u8], at: usize, kind: u8, x: &[f32], y: &[f32]) -> usize
-    ensures { λ r. ⌜ page (now (out .exit)) r ≡ written (page (now (out .entry)) at) (areaLines kind (now (x .entry)) (now (y .entry))) ⌝ }
+fn put_areas(out: &mut [u8], at: usize, kind: u8, x: &[f32], y: &[f32], z: &[usize]) -> usize
+    ensures { λ r. ⌜ page (now (out .exit)) r ≡ written (page (now (out .entry)) at) (areaLines kind (now (x .entry)) (now (y .entry)) (now (z .entry))) ⌝ }
 {
     match kind {
-        2 => put_both(out, at, b"lines", x, b"energies", y),
+        2 => put_analysed(out, at, x, y, z),
         4 => put_area(out, at, b"samples", x),
         5 => put_both(out, at, b"real", x, b"imag", y),
         6 => put_area(out, at, b"buffer", x),
         7 => put_energy(out, at, x),
         11 => put_area(out, at, b"lines", x),
-        12 => put_area(out, at, b"energies", x),
+        12 => put_measured(out, at, x, z),
         _ => at,
     }
 }
 
-// n, and no more than the area has places.
-fn part(n: usize, area: &[f32]) -> usize
-    ensures { λ r. ⌜ r ≡ min n (length (now (area .entry))) ⌝ }
+// n, and no more than an area has places.
+fn part(n: usize, places: usize) -> usize
+    ensures { λ r. ⌜ r ≡ min n places ⌝ }
 {
-    if n < area.len() { n } else { area.len() }
+    if n < places { n } else { places }
 }
 
-// The lines of the areas that a call of a kind has, of m places of x and n of y.
-fn put_parts(out: &mut [u8], at: usize, kind: u8, x: &[f32], m: usize, y: &[f32], n: usize) -> usize
-    ensures { λ r. ⌜ page (now (out .exit)) r ≡ written (page (now (out .entry)) at) (areaLines kind (take m (now (x .entry))) (take n (now (y .entry)))) ⌝ }
+// The lines of the areas that a call of a kind has, of m places of x, n of y and o of z.
+fn put_parts(
+    out: &mut [u8],
+    at: usize,
+    kind: u8,
+    x: &[f32],
+    m: usize,
+    y: &[f32],
+    n: usize,
+    z: &[usize],
+    o: usize,
+) -> usize
+    ensures { λ r. ⌜ page (now (out .exit)) r ≡ written (page (now (out .entry)) at) (areaLines kind (take m (now (x .entry))) (take n (now (y .entry))) (take o (now (z .entry)))) ⌝ }
 {
-    let a = part(m, x);
-    let b = part(n, y);
-    put_areas(out, at, kind, &x[..a], &y[..b])
+    let a = part(m, x.len());
+    let b = part(n, y.len());
+    let c = part(o, z.len());
+    put_areas(out, at, kind, &x[..a], &y[..b], &z[..c])
 }
 
-// Entry. The text of a call that does not show the channels; its areas are m places of x and n of y.
+// Entry. The text of a call that does not show the channels; its areas are m places of x, n of y and o of z.
 pub fn put_call(
     out: &mut [u8],
     at: usize,
@@ -255,12 +311,14 @@ pub fn put_call(
     m: usize,
     y: &[f32],
     n: usize,
+    z: &[usize],
+    o: usize,
 ) -> usize
-    ensures { λ r. ⌜ page (now (out .exit)) r ≡ written (page (now (out .entry)) at) (callText count kind number index e (take m (now (x .entry))) (take n (now (y .entry)))) ⌝ }
+    ensures { λ r. ⌜ page (now (out .exit)) r ≡ written (page (now (out .entry)) at) (callText count kind number index e (take m (now (x .entry))) (take n (now (y .entry))) (take o (now (z .entry)))) ⌝ }
 {
     let k = put_numbers(out, at, count, kind as u64);
     let line = put_answer(out, k, number, index, e);
-    put_parts(out, line, kind, x, m, y, n)
+    put_parts(out, line, kind, x, m, y, n, z, o)
 }
 
 // The lines of the two channels.

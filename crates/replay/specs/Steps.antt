@@ -15,7 +15,7 @@ use Rattle.call_made.specs.Made.{made}
 
 -- ---- the text
 abbrev pub answerText : ℕ → ℕ → Answer → List ℕ
-answerText count kind a = callText count kind (a .number) (a .index) (a .extra) (take (a .m) (a .x)) (take (a .n) (a .y))
+answerText count kind a = callText count kind (a .number) (a .index) (a .extra) (take (a .m) (a .x)) (take (a .n) (a .y)) (take (a .o) (a .z))
 
 -- "8 `analysis C` and every sample of the array in decimal, `synthesis C` and every place of the memory in hex"
 abbrev pub madeText : ℕ → ℕ → Bench → List ℕ

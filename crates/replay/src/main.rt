@@ -17,7 +17,7 @@ use libc::STDOUT_FILENO;
 // The longest call: an FFT with 1,024 values in each slice.
 const LONGEST: usize = 8204;
 
-// More than the longest answer, to such an FFT, takes.
+// More than the longest answer takes: a frame's, with 1,024 lines, energies and peaks.
 const ANSWER: usize = 24576;
 
 // The bytes of the input that are not used yet; over where the log has no more.
@@ -43,6 +43,7 @@ fn put_answer(out: &mut [u8], at: usize, count: u64, kind: u8, answer: Answer) -
     let e = answer.extra;
     let x = answer.x;
     let y = answer.y;
+    let z = answer.z;
     call_text::put_call(
         out,
         at,
@@ -55,6 +56,8 @@ fn put_answer(out: &mut [u8], at: usize, count: u64, kind: u8, answer: Answer) -
         answer.m,
         &y,
         answer.n,
+        &z,
+        answer.o,
     )
 }
 

@@ -61,20 +61,23 @@ slice-aggregate-fft-2 c = search needs
 fft-requires : tie.Need-fft-requires
 fft-requires c κs = search needs
 
+peaks-requires : tie.Need-peaks-requires
+peaks-requires c κs = search needs
+
 same-length : tie.Need-same-length
 same-length c = search needs
 
 returns : tie.Need-returns
 returns c =
-    let f = c .before .before .fft in
-    let s = c .before .before .before .before .before .before in
-    let t = c .before .before .before .before .before .before .before .before .before .before .before .before .before .before .before in
+    let f = c .before .before .before .fft in
+    let s = c .before .before .before .before .before .before .before in
+    let t = c .before .before .before .before .before .before .before .before .before .before .before .before .before .before .before .before in
     let r = t .before .before .before .read-floats .ensures in
     let u = lends (t .area .ensures) (r .0) (s .before .before .before .before .before .before .count-floats .ensures) in
     let v = lends (s .before .before .before .before .before .before .before .before .area2 .ensures) (s .before .before .before .before .before .rest .ensures ∙ ap (drop 2) (r .0)) (s .before .before .before .count-floats2 .ensures) in
     let size = s .before .short .ensures ∙ ap short (s .before .before .rest2 .ensures) in
     let inverse = ap (λ (k : ℕ). eqb k 1) (s .byte-at .ensures) in
-    (transformed-is _ _ (f .result) _ _ size inverse (r .1) u v (f .ensures), r .1)
+    (transformed-is _ _ (f .result) _ _ size inverse (r .1) u v (c .peaks .ensures .0) (f .ensures), r .1)
 
 pub fft-imag-spec : {M : Type 1} → statement M
 fft-imag-spec =
@@ -97,5 +100,6 @@ fft-imag-spec =
     array-borrow-prefix-y
     slice-aggregate-fft-2
     fft-requires
+    peaks-requires
     same-length
     returns)

@@ -11,47 +11,47 @@ use borrow.Author.Needs.{needs}
 use Rattle.call_text.proofs.put_areas.Statement.{statement}
 use Rattle.call_text.proofs.put_areas.Tie as tie
 
-of-kind : (p : Page) (x y : List Float) {k n : ℕ} → k ≡ n → written p (areaLines n x y) ≡ written p (areaLines k x y)
-of-kind p x y e = ap (λ (k : ℕ). written p (areaLines k x y)) (sym e)
+of-kind : (p : Page) (x y : List Float) (z : List ℕ) {k n : ℕ} → k ≡ n → written p (areaLines n x y z) ≡ written p (areaLines k x y z)
+of-kind p x y z e = ap (λ (k : ℕ). written p (areaLines k x y z)) (sym e)
 
 returns : tie.Need-returns
 returns c =
-    let a = c .before .before .before .before .before .before .before .before .before .before .args in
-    c .before .before .put-both .ensures ∙ of-kind (page (a .out .now) (a .at)) (a .x .now) (a .y .now) (c .before .before .before .before .before .before .match .keys1)
+    let a = c .before .before .before .before .before .before .before .before .before .args in
+    c .before .before .put-analysed .ensures ∙ of-kind (page (a .out .now) (a .at)) (a .x .now) (a .y .now) (a .z .now) (c .before .before .before .before .match .keys1)
 
 returns-2 : tie.Need-returns-2
 returns-2 c =
-    let a = c .before .before .before .before .before .before .before .before .before .args in
-    c .before .before .put-area .ensures ∙ of-kind (page (a .out .now) (a .at)) (a .x .now) (a .y .now) (c .before .before .before .before .before .match .keys2)
+    let a = c .before .before .before .before .before .before .before .before .before .before .args in
+    c .before .before .put-area .ensures ∙ of-kind (page (a .out .now) (a .at)) (a .x .now) (a .y .now) (a .z .now) (c .before .before .before .before .before .match .keys2)
 
 returns-3 : tie.Need-returns-3
 returns-3 c =
-    let a = c .before .before .before .before .before .before .before .before .before .before .args in
-    c .before .before .put-both2 .ensures ∙ of-kind (page (a .out .now) (a .at)) (a .x .now) (a .y .now) (c .before .before .before .before .before .before .match .keys3)
+    let a = c .before .before .before .before .before .before .before .before .before .before .before .args in
+    c .before .before .put-both .ensures ∙ of-kind (page (a .out .now) (a .at)) (a .x .now) (a .y .now) (a .z .now) (c .before .before .before .before .before .before .match .keys3)
 
 returns-4 : tie.Need-returns-4
 returns-4 c =
-    let a = c .before .before .before .before .before .before .before .before .before .args in
-    c .before .before .put-area2 .ensures ∙ of-kind (page (a .out .now) (a .at)) (a .x .now) (a .y .now) (c .before .before .before .before .before .match .keys4)
+    let a = c .before .before .before .before .before .before .before .before .before .before .args in
+    c .before .before .put-area2 .ensures ∙ of-kind (page (a .out .now) (a .at)) (a .x .now) (a .y .now) (a .z .now) (c .before .before .before .before .before .match .keys4)
 
 returns-5 : tie.Need-returns-5
 returns-5 c =
-    let a = c .before .before .before .before .before .before .before .before .args in
-    c .before .before .put-energy .ensures ∙ of-kind (page (a .out .now) (a .at)) (a .x .now) (a .y .now) (c .before .before .before .before .match .keys5)
+    let a = c .before .before .before .before .before .before .before .before .before .args in
+    c .before .before .put-energy .ensures ∙ of-kind (page (a .out .now) (a .at)) (a .x .now) (a .y .now) (a .z .now) (c .before .before .before .before .match .keys5)
 
 returns-6 : tie.Need-returns-6
 returns-6 c =
-    let a = c .before .before .before .before .before .before .before .before .before .args in
-    c .before .before .put-area3 .ensures ∙ of-kind (page (a .out .now) (a .at)) (a .x .now) (a .y .now) (c .before .before .before .before .before .match .keys6)
+    let a = c .before .before .before .before .before .before .before .before .before .before .args in
+    c .before .before .put-area3 .ensures ∙ of-kind (page (a .out .now) (a .at)) (a .x .now) (a .y .now) (a .z .now) (c .before .before .before .before .before .match .keys6)
 
 returns-7 : tie.Need-returns-7
 returns-7 c =
     let a = c .before .before .before .before .before .before .before .before .before .args in
-    c .before .before .put-area4 .ensures ∙ of-kind (page (a .out .now) (a .at)) (a .x .now) (a .y .now) (c .before .before .before .before .before .match .keys7)
+    c .before .before .put-measured .ensures ∙ of-kind (page (a .out .now) (a .at)) (a .x .now) (a .y .now) (a .z .now) (c .before .before .before .before .match .keys7)
 
 returns-8 : tie.Need-returns-8
 returns-8 c =
-    let a = c .before .before .before .before .args in
+    let a = c .before .before .before .before .before .args in
     let r = c .match .rest in
     let k = a .kind in
     simp (ne-eqb k 2 (r .0 .0 .0 .0 .0 .0 .1), ne-eqb k 4 (r .0 .0 .0 .0 .0 .1), ne-eqb k 5 (r .0 .0 .0 .0 .1), ne-eqb k 6 (r .0 .0 .0 .1), ne-eqb k 7 (r .0 .0 .1), ne-eqb k 11 (r .0 .1), ne-eqb k 12 (r .1)) (nothing (page (a .out .now) (a .at)))
@@ -62,8 +62,6 @@ safe : tie.Need-returns → tie.Need-returns-2 → tie.Need-returns-3 → tie.Ne
 safe returns returns-2 returns-3 returns-4 returns-5 returns-6 returns-7 returns-8 =
     tie.close
     (tie.spec
-    (λ c. search needs)
-    (λ c. search needs)
     (λ c κs. search needs)
     (λ c. search needs)
     (λ c κs. search needs)
@@ -75,7 +73,6 @@ safe returns returns-2 returns-3 returns-4 returns-5 returns-6 returns-7 returns
     (λ c κs. search needs)
     (λ c. search needs)
     (λ c κs. search needs)
-    (λ c. search needs)
     (λ c κs. search needs)
     (λ c. search needs)
     returns

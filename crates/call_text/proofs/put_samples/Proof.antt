@@ -7,10 +7,10 @@ use lib.IntN.{ℤ, pos}
 use mir.Syntax.{w16}
 use mir.ValLaws.{toZ-ofZ}
 use lib.ListN.{length, getD}
-use Rattle.plain_text.specs.Text.{space, newline}
+use Rattle.plain_text.specs.Text.{space}
 use Rattle.call_text.specs.Page.{page, written}
-use Rattle.call_text.specs.Lines.{sample, each}
-use Rattle.call_text.proofs.Pages.{Going, begun, again, done, two}
+use Rattle.call_text.specs.Lines.{sample}
+use Rattle.call_text.proofs.Pages.{Going, begun, again, ended}
 use borrow.Author.Needs.{needs}
 use Rattle.call_text.proofs.put_samples.Statement.{statement}
 use Rattle.call_text.proofs.put_samples.Tie as tie
@@ -53,9 +53,7 @@ same-length : tie.Need-same-length Inv-loop μ-loop
 same-length c = search needs
 
 returns : tie.Need-returns Inv-loop μ-loop
-returns c =
-    let a = c .before .before .before .before .before .before .before .args in
-    two (page (a .out .now) (a .at)) (each (λ y. space ++ sample y) (a .x .now)) newline (done (c .before .before .before .before .before .loop .inv) (omega arith)) (c .before .before .put .ensures)
+returns c = ended (c .before .before .before .before .before .loop .inv) (omega arith) (c .before .before .put .ensures)
 
 pub put-samples-spec : {M : Type 1} → statement M
 put-samples-spec =

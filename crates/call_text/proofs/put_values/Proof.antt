@@ -4,10 +4,9 @@ use Prim.Native.Nat.{_-_}
 use native.Mathlib.Omega.{arith}
 use lib.Ieee.{nan}
 use lib.ListN.{length}
-use Rattle.plain_text.specs.Text.{space, newline}
-use Rattle.call_text.specs.Page.{page}
-use Rattle.call_text.specs.Lines.{value, each}
-use Rattle.call_text.proofs.Pages.{Going, begun, again, done, two}
+use Rattle.plain_text.specs.Text.{space}
+use Rattle.call_text.specs.Lines.{value}
+use Rattle.call_text.proofs.Pages.{Going, begun, again, ended}
 use borrow.Author.Needs.{needs}
 use Rattle.call_text.proofs.put_values.Statement.{statement}
 use Rattle.call_text.proofs.put_values.Tie as tie
@@ -48,9 +47,7 @@ same-length : tie.Need-same-length Inv-loop μ-loop
 same-length c = search needs
 
 returns : tie.Need-returns Inv-loop μ-loop
-returns c =
-    let a = c .before .before .before .before .before .before .before .before .args in
-    two (page (a .out .now) (a .at)) (each (λ y. space ++ value y) (a .x .now)) newline (done (c .before .before .before .before .before .loop .inv) (omega arith)) (c .before .before .put .ensures)
+returns c = ended (c .before .before .before .before .before .loop .inv) (omega arith) (c .before .before .put .ensures)
 
 pub put-values-spec : {M : Type 1} → statement M
 put-values-spec =

@@ -1,0 +1,65 @@
+-- `call_text::put_places` meets its contract. The invariant: what is left, written on the page at hand, makes the page that is to be (`Going`). Assumes nothing.
+use mathlib.Core.List.{_++_}
+use Prim.Native.Nat.{_-_}
+use native.Mathlib.Omega.{arith}
+use lib.ListN.{length}
+use Rattle.plain_text.specs.Text.{space, decimal}
+use Rattle.call_text.proofs.Pages.{Going, begun, again, ended}
+use borrow.Author.Needs.{needs}
+use Rattle.call_text.proofs.put_places.Statement.{statement}
+use Rattle.call_text.proofs.put_places.Tie as tie
+
+abbrev Inv-loop : tie.InvT-loop
+Inv-loop out₀ at z k₀ i₀ out k i = Going (λ y. space ++ decimal y) z out₀ k₀ out k i
+
+abbrev μ-loop : tie.MeasureT-loop
+μ-loop out₀ at z k₀ i₀ out k i = length z - i
+
+loop-holds : tie.Need-loop-holds Inv-loop μ-loop
+loop-holds c = let a = c .before .before .args in begun (a .out .now) (a .at)
+
+mul-put-place : tie.Need-mul-put-place Inv-loop μ-loop
+mul-put-place c = search needs
+
+shared-slice-read-put-place : tie.Need-shared-slice-read-put-place Inv-loop μ-loop
+shared-slice-read-put-place c = search needs
+
+put-place-requires : tie.Need-put-place-requires Inv-loop μ-loop
+put-place-requires c κs = search needs
+
+add-i : tie.Need-add-i Inv-loop μ-loop
+add-i c = search needs
+
+loop-less : tie.Need-loop-less Inv-loop μ-loop
+loop-less c = search needs
+
+loop-again : tie.Need-loop-again Inv-loop μ-loop
+loop-again c =
+    let w = c .before .before .put-place in
+    again 0 (w .last .0) (w .result) (c .before .before .before .before .before .before .loop .inv) (omega arith) (w .kept .0) (w .ensures)
+
+put-requires : tie.Need-put-requires Inv-loop μ-loop
+put-requires c κs = search needs
+
+same-length : tie.Need-same-length Inv-loop μ-loop
+same-length c = search needs
+
+returns : tie.Need-returns Inv-loop μ-loop
+returns c = ended (c .before .before .before .before .before .loop .inv) (omega arith) (c .before .before .put .ensures)
+
+pub put-places-spec : {M : Type 1} → statement M
+put-places-spec =
+    tie.close
+    (tie.spec
+    Inv-loop
+    μ-loop
+    loop-holds
+    mul-put-place
+    shared-slice-read-put-place
+    put-place-requires
+    add-i
+    loop-less
+    loop-again
+    put-requires
+    same-length
+    returns)
