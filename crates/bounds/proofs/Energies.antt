@@ -22,7 +22,7 @@ use Rattle.bounds.proofs.Bound.{Room, room, Plus, round-plus, plus, pro
 use Rattle.bounds.proofs.Lists.{each-take, each-drop, each-tab}
 
 -- ---- the sign plus goes through squares, quotients and sums
-square-plus : {k q : ℕ} (x : Float) → Size k q x → Plus (mul binary32 x x)
+pub square-plus : {k q : ℕ} (x : Float) → Size k q x → Plus (mul binary32 x x)
 unfolding mul
 square-plus nan h = absurd (h .fact)
 square-plus (inf s) h = absurd (h .fact)

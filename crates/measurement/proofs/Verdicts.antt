@@ -77,3 +77,16 @@ made c x v f es ps e z p t q =
     let r : f ≡ flagOf c (energiesOf c (x .lines)) = q ∙ ap (flagOf c) p in
     let n : number c x ≡ 0 = sym (ap (λ (w : Verdict). w .number) e) ∙ z in
     (λ i. record { number = 0; index = 0; flag = r i; energies = p i; peaks = t i }) ∙ ap (λ (m : ℕ). measured m c x) (sym n)
+
+-- a call by its number
+pub tells : (c : ℕ) (x : Lent) → measures c x .number ≡ number c x
+unfolding measures
+tells c x = go (number c x)
+  where
+    go : (n : ℕ) → measured n c x .number ≡ n
+    go zero = refl
+    go (suc n) = refl
+
+pub by-number : (c : ℕ) (x : Lent) (n : ℕ) → number c x ≡ n → measures c x ≡ measured n c x
+unfolding measures
+by-number c x n e = ap (λ (m : ℕ). measured m c x) e

@@ -10,7 +10,7 @@ use lib.ListN.{length}
 use lib.Ieee.{Float, ofBits, ofFields, odd, units, round, sum, add, mul, div, ofInt, lt}
 use lib.Count.{trailingZeros}
 use lib.Ieee.Bits.{is-true}
-use borrow.Author.Tests.{eq-eqb, le-ltb}
+use borrow.Author.Tests.{eq-eqb, ne-eqb, le-ltb}
 use Rattle.laws.specs.Lists.{tab, first}
 use Rattle.laws.specs.Passes.{passes6}
 use Rattle.config.specs.Tables.{rows, edgeRows}
@@ -22,50 +22,38 @@ use Rattle.analysis.specs.Analysis.{Lent, held, number, framed, frames, lent}
 use Rattle.analysis.proofs.Frames.{passed}
 use Rattle.measurement.specs.Measurement as measurement
 use Rattle.measurement_steps.specs.Energy.{share, energy, bandOf, energies, total, exceeds}
-use Rattle.measurement.specs.Measurement.{energiesOf, flagOf, measures}
+use Rattle.measurement.specs.Measurement.{energiesOf, peaksOf, flagOf, measures}
 use Rattle.measurement.proofs.Verdicts as verdicts
+use Rattle.measurement.proofs.Verdicts.{tells, by-number}
 use Rattle.bounds.specs.Within.{Each}
 use Rattle.bounds.proofs.Lines.{length-mdct}
 use Rattle.promises.specs.Sequence.{frame as call, fresh, after, recall, gives}
 use Rattle.promises.specs.AnalysisChannel.{analysis}
 use Rattle.promises.specs.Combined as combined
 use Rattle.promises.specs.NoOverflow.{Sample}
-use Rattle.promises.specs.Apart.{Given, second, joined, inTurn, aged, old, Pass, Never6, paired, Apart}
+use Rattle.promises.specs.Apart.{Given, second, joined, inTurn, aged, old, unmeasured, Pass, Never6, paired, Apart}
 use Rattle.promises.proofs.Law.{configured}
 use Rattle.promises.proofs.AnalysisLaw.{lawful, analysis-demand3}
 use Rattle.promises.proofs.NoOverflow.{accepted, from-clear, pass-each, all-pass}
 
--- ---- a measurement by its number
-tells : (c : ℕ) (x : measurement.Lent) → measures c x .number ≡ measurement.number c x
-unfolding measures
-tells c x = go (measurement.number c x)
-  where
-    go : (n : ℕ) → measurement.measured n c x .number ≡ n
-    go zero = refl
-    go (suc n) = refl
-
-by-number : (c : ℕ) (x : measurement.Lent) (n : ℕ) → measurement.number c x ≡ n → measures c x ≡ measurement.measured n c x
-unfolding measures
-by-number c x n e = ap (λ (m : ℕ). measurement.measured m c x) e
-
--- a chain of tests gives none of the numbers that are not in it
-apart-from : (n : ℕ) {i j k : ℕ} → (i ≡ n → ⊥) → (j ≡ n → ⊥) → (k ≡ n → ⊥) → (0 ≡ n → ⊥) → (p q r : Bool) → cond p i (cond q j (cond r k 0)) ≡ n → ⊥
-apart-from n f g h o true q r = f
-apart-from n f g h o false true r = g
-apart-from n f g h o false false true = h
-apart-from n f g h o false false false = o
+-- a test gives none of the numbers that are not in it
+apart-from : (n i m : ℕ) (b : Bool) → (i ≡ n → ⊥) → (m ≡ n → ⊥) → cond b i m ≡ n → ⊥
+apart-from n i m true f g = f
+apart-from n i m false f g = g
 
 -- lines that pass are not refused by 6
 passing : (l : List Float) → Each (λ x. T (passes6 x)) l → ltb (first passes6 l) (length l) ≡ false
 passing l h = le-ltb _ _ (le-of-eq (all-pass l h))
 
-never-6 : (c : ℕ) (l e : List Float) → Pass c l → measures c (measurement.lent l e) .number ≡ 6 → ⊥
-never-6 c l e h n =
-    apart-from 6 (λ z. omega arith) (λ z. omega arith) (λ z. omega arith) (λ z. omega arith) (not (valid c)) (not (eqb (length l) (nf c))) (not (eqb (length e) (nb c)))
-    (rw (passing l h) at (sym (tells c (measurement.lent l e)) ∙ n))
+never-6 : (c : ℕ) (l e : List Float) (p : List ℕ) → Pass c l → measures c (measurement.lent l e p) .number ≡ 6 → ⊥
+never-6 c l e p h n =
+    apart-from 6 1 _ (not (valid c)) (λ z. omega arith)
+    (apart-from 6 3 _ (not (eqb (length l) (nf c))) (λ z. omega arith)
+    (apart-from 6 5 _ (not (eqb (length e) (nb c))) (λ z. omega arith) (apart-from 6 5 0 (not (eqb (length p) (nb c))) (λ z. omega arith) (λ z. omega arith))))
+    (rw (passing l h) at (sym (tells c (measurement.lent l e p)) ∙ n))
 
 -- ---- the pair, by the number of its first call
-module _ (a : Channel) (x : combined.Lent) where
+module _ (a : Channel) (x : combined.Lent) (p : List ℕ) where
   abbrev c : ℕ
   c = a .config
 
@@ -77,14 +65,14 @@ module _ (a : Channel) (x : combined.Lent) where
   lines = linesOf c (held a) (x .input)
 
   abbrev next : measurement.Lent
-  next = measurement.lent lines (x .energies)
+  next = measurement.lent lines (x .energies) p
 
   abbrev turned : ℕ → Given × Channel
-  turned n = let f = framed n a own in (joined (f .0 .lines) (second (f .0 .number) c (measurement.lent (f .0 .lines) (x .energies))), f .1)
+  turned n = let f = framed n a own in (joined (f .0 .lines) (second (f .0 .number) c (measurement.lent (f .0 .lines) (x .energies) p)), f .1)
 
-  -- the combined call, by its number
-  abbrev before : ℕ → Given × Channel
-  before n = aged (combined.framed n a x)
+  -- the combined call, by its number, with the peaks o beside it
+  abbrev before : List ℕ → ℕ → Given × Channel
+  before o n = aged o (combined.framed n a x)
 
   -- the combined call's number: the first call's, and where that is 0 the test of the energies' length, which came last
   abbrev fits : ℕ
@@ -103,72 +91,93 @@ module _ (a : Channel) (x : combined.Lent) where
       go false false true = refl
       go false false false = refl
 
-  old-is : old a x ≡ before (then (number c own))
+  old-is : (o : List ℕ) → old a x o ≡ before o (then (number c own))
   unfolding combined.frames
-  old-is = ap before combined-is
+  old-is o = ap (before o) combined-is
 
   -- where the first call is accepted, the second's configuration and lines are as they have to be
-  second-number : number c own ≡ 0 → measurement.number c next ≡ cond (not (eqb (length (x .energies)) (nb c))) 5 (cond (ltb (first passes6 lines) (length lines)) 6 0)
+  abbrev last : ℕ
+  last = cond (ltb (first passes6 lines) (length lines)) 6 0
+
+  second-number : number c own ≡ 0 → measurement.number c next ≡ cond (not (eqb (length (x .energies)) (nb c))) 5 (cond (not (eqb (length p) (nb c))) 5 last)
   unfolding linesOf
   second-number e =
       let v = passed c own e .0 in
       rw (is-true (valid c) v, eq-eqb (length lines) (nf c) (length-mdct c v (timeBuffer c (held a) (x .input))))
 
-  in-turn : inTurn a x .0 .number ≡ 0 → inTurn a x ≡ old a x
+  in-turn : inTurn a x p .0 .number ≡ 0 → inTurn a x p ≡ old a x (peaksOf c lines)
   unfolding frames
-  in-turn h = go (number c own) h ∙ sym old-is
+  in-turn h = go (number c own) h ∙ sym (old-is (peaksOf c lines))
     where
-      go : (n : ℕ) → turned n .0 .number ≡ 0 → turned n ≡ before (then n)
+      go : (n : ℕ) → turned n .0 .number ≡ 0 → turned n ≡ before (peaksOf c lines) (then n)
       go zero h =
           let e = sym (tells c next) ∙ h in
           ap (λ (m : measurement.Given). (joined lines m, framed 0 a own .1)) (by-number c next 0 e)
-          ∙ ap before (sym (ap (λ (b : Bool). cond (not b) 5 0) (eq-eqb _ _ (verdicts.passed c next e .energies-is))))
+          ∙ ap (before (peaksOf c lines)) (sym (ap (λ (b : Bool). cond (not b) 5 0) (eq-eqb _ _ (verdicts.passed c next e .energies-is))))
       go (suc n) h = absurd (omega arith)
 
-  first-refused : (frames a own .0 .number ≡ 0 → ⊥) → inTurn a x ≡ old a x
+  first-refused : (frames a own .0 .number ≡ 0 → ⊥) → inTurn a x p ≡ old a x p
   unfolding frames
-  first-refused h = go (number c own) h ∙ sym old-is
+  first-refused h = go (number c own) h ∙ sym (old-is p)
     where
-      go : (n : ℕ) → (framed n a own .0 .number ≡ 0 → ⊥) → turned n ≡ before (then n)
+      go : (n : ℕ) → (framed n a own .0 .number ≡ 0 → ⊥) → turned n ≡ before p (then n)
       go zero h = absurd (h refl)
       go (suc n) h = refl
 
-  before-number : (n : ℕ) → before n .0 .number ≡ n
+  before-number : (n : ℕ) → before p n .0 .number ≡ n
   before-number zero = refl
   before-number (suc n) = refl
 
-  old-number : old a x .0 .number ≡ then (number c own)
-  old-number = ap (λ (g : Given × Channel). g .0 .number) old-is ∙ before-number (then (number c own))
+  old-number : old a x p .0 .number ≡ then (number c own)
+  old-number = ap (λ (g : Given × Channel). g .0 .number) (old-is p) ∙ before-number (then (number c own))
 
   not-5 : number c own ≡ 5 → ⊥
-  not-5 = apart-from 5 (λ z. omega arith) (λ z. omega arith) (λ z. omega arith) (λ z. omega arith) (not (valid c)) (not (eqb (length (x .input)) (nf c))) (not (eqb (length (x .lines)) (nf c)))
+  not-5 =
+      apart-from 5 1 _ (not (valid c)) (λ z. omega arith)
+      (apart-from 5 3 _ (not (eqb (length (x .input)) (nf c))) (λ z. omega arith)
+      (apart-from 5 4 0 (not (eqb (length (x .lines)) (nf c))) (λ z. omega arith) (λ z. omega arith)))
 
-  second-refused : old a x .0 .number ≡ 5
-      → inTurn a x ≡ (record { number = 5; index = 0; flag = false; lines = lines; energies = x .energies }, framed 0 a own .1)
+  -- a frame that is accepted, and a measurement of its lines that 5 refuses
+  five : number c own ≡ 0 → measurement.number c next ≡ 5 → inTurn a x p ≡ unmeasured a x p
   unfolding frames
+  five e h = ap turned e ∙ ap (λ (m : measurement.Given). (joined lines m, framed 0 a own .1)) (by-number c next 5 h)
+
+  -- a test that gave 5 gives it whatever would come after it
+  late : (b : Bool) (m : ℕ) → _≡_ {A = ℕ} (cond b 5 0) 5 → cond b 5 m ≡ 5
+  late true m e = refl
+  late false m e = absurd (omega arith)
+
+  second-refused : old a x p .0 .number ≡ 5 → inTurn a x p ≡ unmeasured a x p
   second-refused h = go (number c own) refl (sym old-number ∙ h)
     where
-      late : (b : Bool) (m : ℕ) → _≡_ {A = ℕ} (cond b 5 0) 5 → cond b 5 m ≡ 5
-      late true m e = refl
-      late false m e = absurd (omega arith)
-
-      go : (n : ℕ) → number c own ≡ n → then n ≡ 5 → turned n ≡ (record { number = 5; index = 0; flag = false; lines = lines; energies = x .energies }, framed 0 a own .1)
-      go zero e h = ap (λ (m : measurement.Given). (joined lines m, framed 0 a own .1)) (by-number c next 5 (second-number e ∙ late (not (eqb (length (x .energies)) (nb c))) (cond (ltb (first passes6 lines) (length lines)) 6 0) h))
+      go : (n : ℕ) → number c own ≡ n → then n ≡ 5 → inTurn a x p ≡ unmeasured a x p
+      go zero e h = five e (second-number e ∙ late (not (eqb (length (x .energies)) (nb c))) _ h)
       go (suc n) e h = absurd (not-5 (e ∙ h))
 
-  accepts-alike : Each Sample (a .samples) → Each Sample (x .input) → inTurn a x .0 .number ≡ old a x .0 .number
+  peaks-refused : old a x p .0 .number ≡ 0 → (length p ≡ nb c → ⊥) → inTurn a x p ≡ unmeasured a x p
+  peaks-refused h d = go (number c own) refl (sym old-number ∙ h)
+    where
+      either : (b : Bool) → _≡_ {A = ℕ} (cond b 5 5) 5
+      either true = refl
+      either false = refl
+
+      go : (n : ℕ) → number c own ≡ n → then n ≡ 0 → inTurn a x p ≡ unmeasured a x p
+      go zero e h = five e (second-number e ∙ ap (λ (b : Bool). cond (not (eqb (length (x .energies)) (nb c))) 5 (cond (not b) 5 last)) (ne-eqb (length p) (nb c) d) ∙ either (not (eqb (length (x .energies)) (nb c))))
+      go (suc n) e h = absurd (omega arith)
+
+  accepts-alike : Each Sample (a .samples) → Each Sample (x .input) → length p ≡ nb c → inTurn a x p .0 .number ≡ old a x p .0 .number
   unfolding frames
-  accepts-alike s i = go (number c own) refl ∙ sym old-number
+  accepts-alike s i l = go (number c own) refl ∙ sym old-number
     where
       go : (n : ℕ) → number c own ≡ n → turned n .0 .number ≡ then n
       go zero e =
           tells c next
           ∙ second-number e
-          ∙ ap (λ (b : Bool). cond (not (eqb (length (x .energies)) (nb c))) 5 (cond b 6 0)) (passing lines (pass-each a (passed c own e .0) s (x .input) i))
+          ∙ ap₂ (λ (b d : Bool). cond (not (eqb (length (x .energies)) (nb c))) 5 (cond (not b) 5 (cond d 6 0))) (eq-eqb (length p) (nb c) l) (passing lines (pass-each a (passed c own e .0) s (x .input) i))
       go (suc n) e = refl
 
   -- what an accepted pair gives, by its lines
-  taken : inTurn a x .0 .number ≡ 0 → (number c own ≡ 0) × (inTurn a x .0 ≡ paired c (frames a own .0 .lines))
+  taken : inTurn a x p .0 .number ≡ 0 → (number c own ≡ 0) × (inTurn a x p .0 ≡ paired c (frames a own .0 .lines))
   unfolding frames
   taken h = go (number c own) h
     where
@@ -187,22 +196,23 @@ apart =
       in-turn = in-turn;
       lines-pass = accepted Pass pass-each;
       lines-pass-after = from-clear Pass (accepted Pass pass-each);
-      never-6 = accepted Never6 (λ a v s x i e. never-6 (a .config) (linesOf (a .config) (held a) x) e (pass-each a v s x i));
-      accepts-alike = λ a s x i. accepts-alike a x s i;
+      never-6 = accepted Never6 (λ a v s x i e p. never-6 (a .config) (linesOf (a .config) (held a) x) e p (pass-each a v s x i));
+      accepts-alike = λ a s x i p l. accepts-alike a x p s i l;
       first-refused = first-refused;
       second-refused = second-refused;
-      by-definition = λ c a e qs x n.
+      peaks-refused = peaks-refused;
+      by-definition = λ c a e qs x p n.
           let d = after analysis a qs in
-          let p = recall analysis (fresh c) qs in
-          let t = taken d x n in
+          let r = recall analysis (fresh c) qs in
+          let t = taken d x p n in
           let same = configured analysis lawful c a e qs in
-          let zero-is = ap (λ (m : ℕ). number m (own d x)) (sym same) ∙ t .0 in
-          let gives-0 = analysis-demand3 .by-definition c a e qs (own d x) ∙ ap (λ (m : ℕ). gives analysis m (p .config) (p .before) (own d x)) zero-is in
+          let zero-is = ap (λ (m : ℕ). number m (own d x p)) (sym same) ∙ t .0 in
+          let gives-0 = analysis-demand3 .by-definition c a e qs (own d x p) ∙ ap (λ (m : ℕ). gives analysis m (r .config) (r .before) (own d x p)) zero-is in
           t .1 ∙ ap₂ paired same (ap (λ (g : frame.Given). g .lines) gives-0);
-      agreement = λ a b e f g o s t qs rs r x y i m n.
+      agreement = λ a b e f g o s t qs rs r x y p q i m n.
           let h = analysis-demand3 .agreement a b e f g o s t qs rs r in
-          let tx = taken (after analysis a (call f ∷ qs)) x m in
-          let ty = taken (after analysis b (call g ∷ rs)) y n in
+          let tx = taken (after analysis a (call f ∷ qs)) x p m in
+          let ty = taken (after analysis b (call g ∷ rs)) y q n in
           tx .1 ∙ ap₂ paired (h .configs) (ap (λ (g : frame.Given). g .lines) (h .answers _ _ i (is-0 _ (tx .0)) (is-0 _ (ty .0)))) ∙ sym (ty .1);
       at-the-bound = refl;
       above-it = refl;

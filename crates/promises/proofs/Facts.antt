@@ -20,9 +20,11 @@ use Rattle.measurement_steps.specs.Energy.{total, exceeds}
 use Rattle.measurement.specs.Measurement.{flagOf}
 use Rattle.synthesis_steps.specs.Places.{mirrored, unfolded, output, remains}
 use Rattle.loudest.specs.declared.Loudest.the-variants.{Quiet}
-use Rattle.loudest.specs.Loudest.{First, heard, told, refusal, loudest, loud, best, silent, paper}
+use Rattle.laws.specs.Greatest.{First, best}
+use Rattle.laws.proofs.Greatest.{best-first}
+use Rattle.loudest.specs.Loudest.{heard, told, refusal, loudest, loud, silent, paper}
 use Rattle.loudest.proofs.Counts.{some as some-bands}
-use Rattle.loudest.proofs.Rank.{best-first, ranked-all}
+use Rattle.loudest.proofs.Rank.{ranked-all}
 use Rattle.promises.specs.Facts.{Facts}
 
 -- the band told is the scan's

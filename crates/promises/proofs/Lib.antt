@@ -11,3 +11,4 @@ pub mod Short
 pub mod NoOverflow
 pub mod Apart
 pub mod Reached
+pub mod Peaks

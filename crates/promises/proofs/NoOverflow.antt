@@ -160,7 +160,7 @@ abbrev lends : Channel → List ℤ → Lent
 lends a x = lent x (zeros32 (nf (a .config)))
 
 abbrev next : Channel → List ℤ → measurement.Lent
-next a x = measurement.lent (linesOf (a .config) (held a) x) (zeros32 (nb (a .config)))
+next a x = measurement.lent (linesOf (a .config) (held a) x) (zeros32 (nb (a .config))) (replicate (nb (a .config)) 0)
 
 takes : (a : Channel) → T (valid (a .config)) → (x : List ℤ) → length x ≡ nf (a .config) → frames a (lends a x) ≡ framed 0 a (lends a x)
 unfolding frames
@@ -173,7 +173,7 @@ unfolding measures linesOf
 measure-takes a v s x i =
     let c = a .config in
     let l = length-mdct c v (timeBuffer c (held a) x) in
-    let p = verdicts.says-0 c (next a x) refl (ap not (is-true (valid c) v)) l (length-replicate (nb c) zero32) refl (le-of-eq (all-pass _ (pass-each a v s x i))) in
+    let p = verdicts.says-0 c (next a x) refl (ap not (is-true (valid c) v)) l (length-replicate (nb c) zero32) (length-replicate (nb c) 0) refl (le-of-eq (all-pass _ (pass-each a v s x i))) in
     ap (λ (w : Verdict). measurement.measured (w .number) c (next a x)) (sym p)
 
 -- all along frames, from a channel on
@@ -182,7 +182,7 @@ along [] a v s within.none = within.none
 along (x ∷ xs) a v s (within.also w ws) =
     let l = lends a x in
     let t = takes a v x (w .0) in
-    let m = ap (λ (r : Given × Channel). measures (a .config) (measurement.lent (r .0 .lines) (zeros32 (nb (a .config))))) t ∙ measure-takes a v s x (w .1) in
+    let m = ap (λ (r : Given × Channel). measures (a .config) (measurement.lent (r .0 .lines) (zeros32 (nb (a .config))) (replicate (nb (a .config)) 0))) t ∙ measure-takes a v s x (w .1) in
     let rest = along xs (framed 0 a l .1) v (subst (λ (r : Given × Channel). Held (r .1)) t (frame-held a l (w .1) s)) ws in
     within.also
     (ap (λ (r : Given × Channel). r .0 .number) t)

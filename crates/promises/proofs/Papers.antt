@@ -101,8 +101,8 @@ papers =
       astray = λ c f v. rw (lt-leb c largest v);
       short-log = λ b h. rw (lt-ltb (length b) 5 h);
       bad-log-mark = λ b h n. rw (le-ltb (length b) 5 h, lmc-not b h n);
-      bad-log-version = λ b h e n. rw (le-ltb (length b) 5 h, lmc-is b e, version b, ne-eqb (short b 3) 1 n);
-      good-log = λ b h e v. rw (le-ltb (length b) 5 h, lmc-is b e, version b, eq-eqb (short b 3) 1 v);
+      bad-log-version = λ b h e n. rw (le-ltb (length b) 5 h, lmc-is b e, version b, ne-eqb (short b 3) 2 n);
+      good-log = λ b h e v. rw (le-ltb (length b) 5 h, lmc-is b e, version b, eq-eqb (short b 3) 2 v);
       whole-call = λ c b. rw (le-leb 1 (length (c ∷ b)) (omega arith));
       cut-call = refl;
     }

@@ -124,9 +124,11 @@ use Rattle.call_log.proofs.short
 use Rattle.call_log.proofs.count
 use Rattle.call_log.proofs.count_floats
 use Rattle.call_log.proofs.count_samples
+use Rattle.call_log.proofs.count_places
 use Rattle.call_log.proofs.samples
 use Rattle.call_log.proofs.floats
 use Rattle.call_log.proofs.area
+use Rattle.call_log.proofs.peaks
 use Rattle.call_log.proofs.read_header as read-log-header
 use Rattle.call_log.proofs.header_number as log-header-number
 use Rattle.call_log.proofs.call_taken
@@ -315,9 +317,11 @@ pub record Entries (w : World) : Type 1 where
   pub count : Entry w count.ended count.clauses
   pub count-floats : Entry w count_floats.ended count_floats.clauses
   pub count-samples : Entry w count_samples.ended count_samples.clauses
+  pub count-places : Entry w count_places.ended count_places.clauses
   pub samples : Entry w samples.ended samples.clauses
   pub floats : Entry w floats.ended floats.clauses
   pub area : Entry w area.ended area.clauses
+  pub peaks : Entry w peaks.ended peaks.clauses
   pub read-log-header : Entry w read-log-header.ended read-log-header.clauses
   pub log-header-number : Entry w log-header-number.ended log-header-number.clauses
   pub call-taken : Entry w call_taken.ended call_taken.clauses
@@ -357,7 +361,7 @@ pub record Cited (w : World) : Type 2 where
       ≡ analysis.outcomeAt (a .0) (x .0) (x .1 .1 .0) (x .1 .1 .1 .1 .0))
   -- measurement: `measure` gives `measures`
   pub measure : Says w measure.ended measure.clauses
-      (λ κs a x. measurement.outcome (x .0) (x .1 .1 .1 .0) ≡ measurement.measures (a .0) (measurement.lent (now (a .1 .0)) (now (a .1 .1 .0))))
+      (λ κs a x. measurement.outcome (x .0) (x .1 .1 .1 .0) (x .1 .1 .1 .1 .0) ≡ measurement.measures (a .0) (measurement.lent (now (a .1 .0)) (now (a .1 .1 .0)) (now (a .1 .1 .1 .0))))
   -- synthesis, alike
   pub synthesis-clear : Says w synthesis-clear.ended synthesis-clear.clauses (λ κs a x. x .0 ≡ synthesis.cleared (a .0))
   pub synthesis-frame : Says w synthesis-frame.ended synthesis-frame.clauses

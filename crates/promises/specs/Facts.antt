@@ -16,7 +16,8 @@ use Rattle.measurement.specs.Measurement.{flagOf}
 use Rattle.laws.specs.Numbers.{zero32}
 use Rattle.synthesis_steps.specs.Places.{unfolded, output, remains}
 use Rattle.synthesis.specs.Synthesis.{Lent, number, index}
-use Rattle.loudest.specs.Loudest.{First, heard, paper}
+use Rattle.laws.specs.Greatest.{First}
+use Rattle.loudest.specs.Loudest.{heard, paper}
 
 -- a whole number as an f32
 abbrev pub whole : ℤ → Float

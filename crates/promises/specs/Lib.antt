@@ -9,3 +9,5 @@ pub mod Short
 pub mod NoOverflow
 pub mod Combined
 pub mod Apart
+pub mod Bare
+pub mod Peaks

@@ -10,7 +10,8 @@ use Rattle.laws.specs.Lists.{first}
 use Rattle.laws.specs.Passes.{passes7}
 use Rattle.config.specs.Config.{largest, nf, among, bandCounts}
 use Rattle.config.specs.Refusals.{accepted, badConfig, badEnergies, badEnergy, shortFile, badMark, badVersion, cutFrame}
-use Rattle.loudest.specs.Loudest.{silent, best, heard, paper}
+use Rattle.laws.specs.Greatest.{best}
+use Rattle.loudest.specs.Loudest.{silent, heard, paper}
 use Rattle.frame_file.specs.File.{lmf, byte, short, headerOf, recordOf}
 use Rattle.frame_file.specs.Paper.{Paper, headerPaper, recordPaper}
 use Rattle.call_log.specs.Log as log
@@ -78,10 +79,10 @@ pub record Papers : Type 0 where
   pub short-log : (b : List ℕ) → length b < 5 → ofLog b ≡ alone shortFile
   -- 5 bytes or more, the first three not `LMC`: 9
   pub bad-log-mark : (b : List ℕ) → 5 ≤ length b → (take 3 b ≡ lmc → ⊥) → ofLog b ≡ alone badMark
-  -- `LMC`, and a version that is not 1: 10
-  pub bad-log-version : (b : List ℕ) → 5 ≤ length b → take 3 b ≡ lmc → (short b 3 ≡ 1 → ⊥) → ofLog b ≡ alone badVersion
+  -- `LMC`, and a version that is not 2: 10
+  pub bad-log-version : (b : List ℕ) → 5 ≤ length b → take 3 b ≡ lmc → (short b 3 ≡ 2 → ⊥) → ofLog b ≡ alone badVersion
   -- else 0, and no value
-  pub good-log : (b : List ℕ) → 5 ≤ length b → take 3 b ≡ lmc → short b 3 ≡ 1 → ofLog b ≡ alone accepted
+  pub good-log : (b : List ℕ) → 5 ≤ length b → take 3 b ≡ lmc → short b 3 ≡ 2 → ofLog b ≡ alone accepted
   -- a clear takes its kind and its configuration
   pub whole-call : (c : ℕ) (b : List ℕ) → ofCall (1 ∷ c ∷ b) ≡ 2 ∷ []
   -- cut after its kind it is stopped
