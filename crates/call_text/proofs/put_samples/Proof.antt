@@ -24,33 +24,12 @@ abbrev μ-loop : tie.MeasureT-loop
 loop-holds : tie.Need-loop-holds Inv-loop μ-loop
 loop-holds c = let a = c .before .args in begun (a .out .now) (a .at)
 
-mul-put-sample : tie.Need-mul-put-sample Inv-loop μ-loop
-mul-put-sample c = search needs
-
-shared-slice-copy-out-put-sample : tie.Need-shared-slice-copy-out-put-sample Inv-loop μ-loop
-shared-slice-copy-out-put-sample c = search needs
-
-put-sample-requires : tie.Need-put-sample-requires Inv-loop μ-loop
-put-sample-requires c κs = search needs
-
-add-i : tie.Need-add-i Inv-loop μ-loop
-add-i c = search needs
-
-loop-less : tie.Need-loop-less Inv-loop μ-loop
-loop-less c = search needs
-
 loop-again : tie.Need-loop-again Inv-loop μ-loop
 loop-again c =
     let w = c .before .before .put-sample in
     let l = c .before .before .before .before .before .before .loop in
     let read = toZ-ofZ w16 (getD (c .before .before .before .before .before .before .before .before .args .x .now) (l .i) (pos 0)) (record { sfits = c .before .before .before .put-sample-arg2 .given }) in
     again (pos 0) (w .last .0) (w .result) (l .inv) (omega arith) (w .kept .0) (w .ensures ∙ ap (λ (z : ℤ). written (page (l .out) (l .k)) (space ++ sample z)) read)
-
-put-requires : tie.Need-put-requires Inv-loop μ-loop
-put-requires c κs = search needs
-
-same-length : tie.Need-same-length Inv-loop μ-loop
-same-length c = search needs
 
 returns : tie.Need-returns Inv-loop μ-loop
 returns c = ended (c .before .before .before .before .before .loop .inv) (omega arith) (c .before .before .put .ensures)
@@ -62,12 +41,12 @@ put-samples-spec =
     Inv-loop
     μ-loop
     loop-holds
-    mul-put-sample
-    shared-slice-copy-out-put-sample
-    put-sample-requires
-    add-i
-    loop-less
+    (λ c. search needs)
+    (λ c. search needs)
+    (λ c κs. search needs)
+    (λ c. search needs)
+    (λ c. search needs)
     loop-again
-    put-requires
-    same-length
+    (λ c κs. search needs)
+    (λ c. search needs)
     returns)
