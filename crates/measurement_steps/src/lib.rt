@@ -125,21 +125,46 @@ fn many(lines: &[f32]) -> Reading
     rest(lines, n / 4 * 4, width, b)
 }
 
+// A band of one to three lines.
+fn one_to_three(lines: &[f32], width: f32) -> Reading
+    requires { ⌜ (0 < length (now lines)) × (length (now lines) < 4) ⌝ }
+    ensures { λ r. ⌜ r ≡ upTo width (now (lines .entry)) (length (now (lines .entry))) ⌝ }
+{
+    rest(lines, 0, width, start(lines))
+}
+
+// A band of four to seven.
+fn four_to_seven(lines: &[f32], width: f32) -> Reading
+    requires { ⌜ (4 ≤ length (now lines)) × (length (now lines) < 8) ⌝ }
+    ensures { λ r. ⌜ r ≡ upTo width (now (lines .entry)) (length (now (lines .entry))) ⌝ }
+{
+    rest(lines, 4, width, four(lines, 0, width, start(lines)))
+}
+
+// A band of eight to eleven.
+fn eight_to_eleven(lines: &[f32], width: f32) -> Reading
+    requires { ⌜ (8 ≤ length (now lines)) × (length (now lines) < 12) ⌝ }
+    ensures { λ r. ⌜ r ≡ upTo width (now (lines .entry)) (length (now (lines .entry))) ⌝ }
+{
+    let first = four(lines, 0, width, start(lines));
+    rest(lines, 8, width, four(lines, 4, width, first))
+}
+
 // Inner. One band, from its lines. The bands of few lines, which are many, are spared the loop.
 pub fn measured(lines: &[f32]) -> Reading
     requires { ⌜ (0 < length (now lines)) × (length (now lines) ≤ 480) ⌝ }
     ensures { λ r. ⌜ r ≡ whole (now (lines .entry)) ⌝ }
 {
-    let none = start(lines);
     match lines.len() {
-        1 => more(lines, 0, 1.0, none),
-        2 => more(lines, 1, 2.0, more(lines, 0, 2.0, none)),
-        3 => {
-            let two = more(lines, 1, 3.0, more(lines, 0, 3.0, none));
-            more(lines, 2, 3.0, two)
-        }
-        4 => four(lines, 0, 4.0, none),
-        5 => more(lines, 4, 5.0, four(lines, 0, 5.0, none)),
+        1 => one_to_three(lines, 1.0),
+        2 => one_to_three(lines, 2.0),
+        3 => one_to_three(lines, 3.0),
+        4 => four_to_seven(lines, 4.0),
+        5 => four_to_seven(lines, 5.0),
+        6 => four_to_seven(lines, 6.0),
+        7 => four_to_seven(lines, 7.0),
+        8 => eight_to_eleven(lines, 8.0),
+        9 => eight_to_eleven(lines, 9.0),
         _ => many(lines),
     }
 }

@@ -1,4 +1,4 @@
--- `measured` meets its contract: each case goes through all lines by their number. Assumes nothing.
+-- `measured` meets its contract: each case goes through all lines, by the width that their number is. Assumes nothing.
 use mathlib.Core.Path.{refl}
 use native.Mathlib.Omega.{arith}
 use lib.Ieee.{ofBits, ofInt}
@@ -7,54 +7,54 @@ use Rattle.measurement_steps.proofs.Peaks.{whole-is}
 use Rattle.measurement_steps.proofs.measured.Statement.{statement}
 use Rattle.measurement_steps.proofs.measured.Tie as tie
 
-more-requires : tie.Need-more-requires
-more-requires c κs = (omega arith, c .before .start .ensures _)
-
-more-requires-2 : tie.Need-more-requires-2
-more-requires-2 c κs = (omega arith, c .before .start .ensures _)
-
-more-requires-4 : tie.Need-more-requires-4
-more-requires-4 c κs = (omega arith, c .before .start .ensures _)
-
-four-requires : tie.Need-four-requires
-four-requires c κs = (omega arith, c .before .start .ensures _)
-
-four-requires-2 : tie.Need-four-requires-2
-four-requires-2 c κs = (omega arith, c .before .start .ensures _)
-
 returns : tie.Need-returns
 unfolding ofBits ofInt
-returns c = whole-is _ (c .before .before .before .before .args .lines .now) 1 _ (c .more .ensures) (omega arith) refl
+returns c = whole-is _ (c .before .before .before .args .lines .now) 1 _ (c .one-to-three .ensures) (omega arith) refl
 
 returns-2 : tie.Need-returns-2
 unfolding ofBits ofInt
-returns-2 c = whole-is _ (c .before .before .before .before .before .args .lines .now) 2 _ (c .more3 .ensures) (omega arith) refl
+returns-2 c = whole-is _ (c .before .before .before .args .lines .now) 2 _ (c .one-to-three2 .ensures) (omega arith) refl
 
 returns-3 : tie.Need-returns-3
 unfolding ofBits ofInt
-returns-3 c = whole-is _ (c .before .before .before .before .before .before .args .lines .now) 3 _ (c .more6 .ensures) (omega arith) refl
+returns-3 c = whole-is _ (c .before .before .before .args .lines .now) 3 _ (c .one-to-three3 .ensures) (omega arith) refl
 
 returns-4 : tie.Need-returns-4
 unfolding ofBits ofInt
-returns-4 c = whole-is _ (c .before .before .before .before .args .lines .now) 4 _ (c .four .ensures) (omega arith) refl
+returns-4 c = whole-is _ (c .before .before .before .args .lines .now) 4 _ (c .four-to-seven .ensures) (omega arith) refl
 
 returns-5 : tie.Need-returns-5
 unfolding ofBits ofInt
-returns-5 c = whole-is _ (c .before .before .before .before .before .args .lines .now) 5 _ (c .more7 .ensures) (omega arith) refl
+returns-5 c = whole-is _ (c .before .before .before .args .lines .now) 5 _ (c .four-to-seven2 .ensures) (omega arith) refl
+
+returns-6 : tie.Need-returns-6
+unfolding ofBits ofInt
+returns-6 c = whole-is _ (c .before .before .before .args .lines .now) 6 _ (c .four-to-seven3 .ensures) (omega arith) refl
+
+returns-7 : tie.Need-returns-7
+unfolding ofBits ofInt
+returns-7 c = whole-is _ (c .before .before .before .args .lines .now) 7 _ (c .four-to-seven4 .ensures) (omega arith) refl
+
+returns-8 : tie.Need-returns-8
+unfolding ofBits ofInt
+returns-8 c = whole-is _ (c .before .before .before .args .lines .now) 8 _ (c .eight-to-eleven .ensures) (omega arith) refl
+
+returns-9 : tie.Need-returns-9
+unfolding ofBits ofInt
+returns-9 c = whole-is _ (c .before .before .before .args .lines .now) 9 _ (c .eight-to-eleven2 .ensures) (omega arith) refl
 
 pub measured-spec : {M : Type 1} → statement M
 measured-spec =
     tie.close
     (tie.spec
     (λ c κs. search needs)
-    more-requires
-    more-requires-2
-    (λ c κs. search needs)
-    more-requires-4
     (λ c κs. search needs)
     (λ c κs. search needs)
-    four-requires
-    four-requires-2
+    (λ c κs. search needs)
+    (λ c κs. search needs)
+    (λ c κs. search needs)
+    (λ c κs. search needs)
+    (λ c κs. search needs)
     (λ c κs. search needs)
     (λ c κs. search needs)
     returns
@@ -62,4 +62,8 @@ measured-spec =
     returns-3
     returns-4
     returns-5
+    returns-6
+    returns-7
+    returns-8
+    returns-9
     (λ c. search needs))
