@@ -92,13 +92,14 @@ module _ (w : Float) (ls : List Float) (i : ℕ) (b : Reading) (h : b ≡ upTo w
         let own : s ≡ sumOf (shareBy w) (b .energy) (take 4 (drop i ls)) = simp (e, ep, eq, er, et, stretch 4 i ls l, add-zero) in
         comes-to w ls (i + 4) _ (summed-on (shareBy w) zero32 ls i 4 (i + 4) (b .energy) s (summed-of w ls i b h) own refl) four-tops
 
--- after all lines, by the width that the code has at hand
-pub whole-is : (w : Float) (ls : List Float) (n : ℕ) (b : Reading) → b ≡ upTo w ls (length ls) → length ls ≡ n → w ≡ ofInt binary32 (pos n) → b ≡ whole ls
+-- after all lines
+pub whole-is : (w : Float) (ls : List Float) (n : ℕ) (b : Reading) → b ≡ upTo w ls n → length ls ≡ n → w ≡ ofInt binary32 (pos n) → b ≡ whole ls
 unfolding whole peak
 whole-is w ls n b e l v =
-    let t = topped-of w ls (length ls) b e in
-    let s = is-energy ls n w (b .energy) (summed-all (shareBy w) zero32 ls (length ls) (b .energy) (summed-of w ls (length ls) b e) refl) l v in
-    λ j. record { energy = s j; peak = t .place j; greatest = t .product j }
+    let t = topped-of w ls n b e in
+    let q : best (squares ls) n ≡ best (squares ls) (length ls) = ap (best (squares ls)) (sym l) in
+    let s = is-energy ls n w (b .energy) (summed-all (shareBy w) zero32 ls n (b .energy) (summed-of w ls n b e) (sym l)) l v in
+    λ j. record { energy = s j; peak = (t .place ∙ q) j; greatest = (t .product ∙ ap (λ (k : ℕ). getD (squares ls) k nan) q) j }
 
 -- a peak is not past its band
 pub peak-within : (ls : List Float) (b : Reading) → b ≡ whole ls → b .peak ≤ length ls

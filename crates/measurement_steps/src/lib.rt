@@ -77,6 +77,22 @@ fn more(lines: &[f32], i: usize, width: f32, b: Reading) -> Reading
     higher(summed, i, p)
 }
 
+// Two lines more.
+fn two(lines: &[f32], i: usize, width: f32, b: Reading) -> Reading
+    requires { ⌜ (i + 2 ≤ length (now lines)) × (b ≡ upTo width (now lines) i) ⌝ }
+    ensures { λ r. ⌜ r ≡ upTo width (now (lines .entry)) (i + 2) ⌝ }
+{
+    more(lines, i + 1, width, more(lines, i, width, b))
+}
+
+// Three lines more.
+fn three(lines: &[f32], i: usize, width: f32, b: Reading) -> Reading
+    requires { ⌜ (i + 3 ≤ length (now lines)) × (b ≡ upTo width (now lines) i) ⌝ }
+    ensures { λ r. ⌜ r ≡ upTo width (now (lines .entry)) (i + 3) ⌝ }
+{
+    more(lines, i + 2, width, two(lines, i, width, b))
+}
+
 // Four lines more. Their shares are worked out first, so that the compiler divides several at once.
 fn four(lines: &[f32], i: usize, width: f32, b: Reading) -> Reading
     requires { ⌜ (i + 4 ≤ length (now lines)) × (b ≡ upTo width (now lines) i) ⌝ }
@@ -102,11 +118,8 @@ fn rest(lines: &[f32], i: usize, width: f32, b: Reading) -> Reading
 {
     match lines.len() - i {
         1 => more(lines, i, width, b),
-        2 => more(lines, i + 1, width, more(lines, i, width, b)),
-        3 => {
-            let two = more(lines, i + 1, width, more(lines, i, width, b));
-            more(lines, i + 2, width, two)
-        }
+        2 => two(lines, i, width, b),
+        3 => three(lines, i, width, b),
         _ => b,
     }
 }
@@ -125,46 +138,25 @@ fn many(lines: &[f32]) -> Reading
     rest(lines, n / 4 * 4, width, b)
 }
 
-// A band of one to three lines.
-fn one_to_three(lines: &[f32], width: f32) -> Reading
-    requires { ⌜ (0 < length (now lines)) × (length (now lines) < 4) ⌝ }
-    ensures { λ r. ⌜ r ≡ upTo width (now (lines .entry)) (length (now (lines .entry))) ⌝ }
-{
-    rest(lines, 0, width, start(lines))
-}
-
-// A band of four to seven.
-fn four_to_seven(lines: &[f32], width: f32) -> Reading
-    requires { ⌜ (4 ≤ length (now lines)) × (length (now lines) < 8) ⌝ }
-    ensures { λ r. ⌜ r ≡ upTo width (now (lines .entry)) (length (now (lines .entry))) ⌝ }
-{
-    rest(lines, 4, width, four(lines, 0, width, start(lines)))
-}
-
-// A band of eight to eleven.
-fn eight_to_eleven(lines: &[f32], width: f32) -> Reading
-    requires { ⌜ (8 ≤ length (now lines)) × (length (now lines) < 12) ⌝ }
-    ensures { λ r. ⌜ r ≡ upTo width (now (lines .entry)) (length (now (lines .entry))) ⌝ }
-{
-    let first = four(lines, 0, width, start(lines));
-    rest(lines, 8, width, four(lines, 4, width, first))
-}
-
 // Inner. One band, from its lines. The bands of few lines, which are many, are spared the loop.
 pub fn measured(lines: &[f32]) -> Reading
     requires { ⌜ (0 < length (now lines)) × (length (now lines) ≤ 480) ⌝ }
     ensures { λ r. ⌜ r ≡ whole (now (lines .entry)) ⌝ }
 {
+    let none = start(lines);
     match lines.len() {
-        1 => one_to_three(lines, 1.0),
-        2 => one_to_three(lines, 2.0),
-        3 => one_to_three(lines, 3.0),
-        4 => four_to_seven(lines, 4.0),
-        5 => four_to_seven(lines, 5.0),
-        6 => four_to_seven(lines, 6.0),
-        7 => four_to_seven(lines, 7.0),
-        8 => eight_to_eleven(lines, 8.0),
-        9 => eight_to_eleven(lines, 9.0),
+        1 => more(lines, 0, 1.0, none),
+        2 => two(lines, 0, 2.0, none),
+        3 => three(lines, 0, 3.0, none),
+        4 => four(lines, 0, 4.0, none),
+        5 => more(lines, 4, 5.0, four(lines, 0, 5.0, none)),
+        6 => two(lines, 4, 6.0, four(lines, 0, 6.0, none)),
+        7 => three(lines, 4, 7.0, four(lines, 0, 7.0, none)),
+        8 => four(lines, 4, 8.0, four(lines, 0, 8.0, none)),
+        9 => {
+            let eight = four(lines, 4, 9.0, four(lines, 0, 9.0, none));
+            more(lines, 8, 9.0, eight)
+        }
         _ => many(lines),
     }
 }

@@ -6,11 +6,6 @@ use Rattle.measurement_steps.proofs.Peaks.{at-place}
 use Rattle.measurement_steps.proofs.rest.Statement.{statement}
 use Rattle.measurement_steps.proofs.rest.Tie as tie
 
-more-requires-6 : tie.Need-more-requires-6
-more-requires-6 c κs =
-    let a = c .before .before .before .before .args in
-    (omega arith, at-place (a .width) (a .lines .now) (a .i + 1 + 1) (a .i + 2) (c .more5 .ensures) (omega arith))
-
 returns : tie.Need-returns
 returns c =
     let a = c .before .before .before .args in
@@ -18,13 +13,13 @@ returns c =
 
 returns-2 : tie.Need-returns-2
 returns-2 c =
-    let a = c .before .before .before .before .args in
-    at-place (a .width) (a .lines .now) (a .i + 1 + 1) _ (c .more3 .ensures) (omega arith)
+    let a = c .before .before .before .args in
+    at-place (a .width) (a .lines .now) (a .i + 2) _ (c .two .ensures) (omega arith)
 
 returns-3 : tie.Need-returns-3
 returns-3 c =
-    let a = c .before .before .before .before .before .args in
-    at-place (a .width) (a .lines .now) (a .i + 2 + 1) _ (c .more6 .ensures) (omega arith)
+    let a = c .before .before .before .args in
+    at-place (a .width) (a .lines .now) (a .i + 3) _ (c .three .ensures) (omega arith)
 
 returns-4 : tie.Need-returns-4
 returns-4 c =
@@ -38,14 +33,8 @@ rest-spec =
     (tie.spec
     (λ c. search needs)
     (λ c κs. search needs)
-    (λ c. search needs)
     (λ c κs. search needs)
     (λ c κs. search needs)
-    (λ c. search needs)
-    (λ c κs. search needs)
-    (λ c κs. search needs)
-    (λ c. search needs)
-    more-requires-6
     returns
     returns-2
     returns-3
