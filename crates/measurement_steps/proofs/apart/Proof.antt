@@ -25,8 +25,9 @@ returns c =
       λ f h. true≢false (sym (eq-eqb _ _ (h 4 (omega arith))) ∙ f),
     )
 
-pub apart-spec : {M : Type 1} → statement M
-apart-spec =
+-- the needs without a name, for any answer: a wrong one hides none of them
+safe : tie.Need-returns → {M : Type 1} → statement M
+safe returns =
     tie.close
     (tie.spec
     (λ c. search needs)
@@ -36,3 +37,6 @@ apart-spec =
     (λ c. search needs)
     add-result-2
     returns)
+
+pub apart-spec : {M : Type 1} → statement M
+apart-spec = safe returns

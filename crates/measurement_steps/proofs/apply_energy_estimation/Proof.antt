@@ -57,8 +57,9 @@ returns c =
     let alike : length (s .last .1 .1 .1 .0) ≡ length (a .out .now) = omega arith in
     (rw same at (filled-all (inv .1) (omega arith)), rw alike at (filled-all (inv .2) (omega arith)))
 
-pub apply-energy-estimation-spec : {M : Type 1} → statement M
-apply-energy-estimation-spec =
+-- the needs without a name, for any answer: a wrong one hides none of them
+safe : tie.Need-loop-again Inv-loop μ-loop → tie.Need-returns Inv-loop μ-loop → {M : Type 1} → statement M
+safe loop-again returns =
     tie.close
     (tie.spec
     Inv-loop
@@ -77,3 +78,6 @@ apply-energy-estimation-spec =
     (λ c. search needs)
     (λ c. search needs)
     returns)
+
+pub apply-energy-estimation-spec : {M : Type 1} → statement M
+apply-energy-estimation-spec = safe loop-again returns

@@ -26,8 +26,9 @@ returns c =
     let a = c .before .before .before .before .before .before .before .args in
     ap (placed (getD (a .edges .now) (a .b) 0)) (c .before .measured .ensures)
 
-pub band-spec : {M : Type 1} → statement M
-band-spec =
+-- the needs without a name, for any answer: a wrong one hides none of them
+safe : tie.Need-returns → {M : Type 1} → statement M
+safe returns =
     tie.close
     (tie.spec
     (λ c. search needs)
@@ -42,3 +43,6 @@ band-spec =
     (λ c κs. search needs)
     add-t9
     returns)
+
+pub band-spec : {M : Type 1} → statement M
+band-spec = safe returns

@@ -21,8 +21,9 @@ returns c =
     ∙ ap (λ (x : Reading). higher x (i + 3) (t .result)) (c .before .higher3 .ensures ∙ ap (λ (x : Reading). higher x (i + 2) (r .result)) (c .before .before .higher2 .ensures ∙ ap (λ (x : Reading). higher x (i + 1) (q .result)) (c .before .before .before .higher .ensures)))
     ∙ four-is (a .width) (a .lines .now) i (a .b) (s .pre .1) _ _ _ _ _ (s .pre .0) (p .ensures) (q .ensures) (r .ensures) (t .ensures) refl
 
-pub four-spec : {M : Type 1} → statement M
-four-spec =
+-- the needs without a name, for any answer: a wrong one hides none of them
+safe : tie.Need-returns → {M : Type 1} → statement M
+safe returns =
     tie.close
     (tie.spec
     (λ c κs. search needs)
@@ -40,3 +41,6 @@ four-spec =
     (λ c. search needs)
     (λ c κs. search needs)
     returns)
+
+pub four-spec : {M : Type 1} → statement M
+four-spec = safe returns

@@ -11,5 +11,10 @@ returns c =
     let a = s .args in
     c .higher .ensures ∙ more-is (a .width) (a .lines .now) (a .i) (a .b) (s .pre .1) _ (s .pre .0) (c .before .before .square .ensures)
 
+-- the needs without a name, for any answer: a wrong one hides none of them
+safe : tie.Need-returns → {M : Type 1} → statement M
+safe returns =
+    tie.close (tie.spec (λ c κs. search needs) (λ c κs. search needs) returns)
+
 pub more-spec : {M : Type 1} → statement M
-more-spec = tie.close (tie.spec (λ c κs. search needs) (λ c κs. search needs) returns)
+more-spec = safe returns

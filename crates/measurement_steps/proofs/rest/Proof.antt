@@ -27,8 +27,9 @@ returns-4 c =
     let a = s .args in
     at-place (a .width) (a .lines .now) (a .i) _ (s .pre .2) (omega arith)
 
-pub rest-spec : {M : Type 1} → statement M
-rest-spec =
+-- the needs without a name, for any answer: a wrong one hides none of them
+safe : tie.Need-returns → tie.Need-returns-2 → tie.Need-returns-3 → tie.Need-returns-4 → {M : Type 1} → statement M
+safe returns returns-2 returns-3 returns-4 =
     tie.close
     (tie.spec
     (λ c. search needs)
@@ -39,3 +40,6 @@ rest-spec =
     returns-2
     returns-3
     returns-4)
+
+pub rest-spec : {M : Type 1} → statement M
+rest-spec = safe returns returns-2 returns-3 returns-4

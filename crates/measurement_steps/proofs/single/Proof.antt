@@ -18,8 +18,9 @@ returns c =
     let fourth : suc (b + 2) ≡ b + 3 = omega arith in
     (simp (c .before .before .before .one .ensures, c .before .before .one2 .ensures, c .before .one3 .ensures, c .one4 .ensures, second, third, fourth, add-zero), simp (second, third, fourth, add-zero))
 
-pub single-spec : {M : Type 1} → statement M
-single-spec =
+-- the needs without a name, for any answer: a wrong one hides none of them
+safe : tie.Need-returns → {M : Type 1} → statement M
+safe returns =
     tie.close
     (tie.spec
     (λ c κs. search needs)
@@ -57,3 +58,6 @@ single-spec =
     (λ c. search needs)
     (λ c. search needs)
     returns)
+
+pub single-spec : {M : Type 1} → statement M
+single-spec = safe returns

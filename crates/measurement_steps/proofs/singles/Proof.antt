@@ -84,8 +84,9 @@ returns-2 c =
     let inv = c .before .loop .inv in
     (omega arith, inv .1, λ l. absurd (omega arith), inv .2 .holds, inv .3 .holds)
 
-pub singles-spec : {M : Type 1} → statement M
-singles-spec =
+-- the needs without a name, for any answer: a wrong one hides none of them
+safe : tie.Need-loop-again Inv-loop μ-loop → tie.Need-returns Inv-loop μ-loop → tie.Need-returns-2 Inv-loop μ-loop → {M : Type 1} → statement M
+safe loop-again returns returns-2 =
     tie.close
     (tie.spec
     Inv-loop
@@ -107,3 +108,6 @@ singles-spec =
     (λ c. search needs)
     (λ c. search needs)
     returns-2)
+
+pub singles-spec : {M : Type 1} → statement M
+singles-spec = safe loop-again returns returns-2
