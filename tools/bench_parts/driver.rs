@@ -371,7 +371,7 @@ fn check() {
     println!("{}", ROUNDS * compared.len() * numbers().count());
 }
 
-/// A DCT is in place: its buffer stays zero here, since other values would grow from call to call. No count of it depends on values.
+/// A DCT is in place: its buffer stays zero here, since other values would grow from call to call. No count depends on values.
 fn count(call: &str, mut made: Box<dyn Call>, n: usize) {
     if call != "dct" {
         made.give(&mut Random(1));

@@ -5,7 +5,7 @@ ghost use Prim.Native.Nat.{_+_, _*_, _≤_, _<_, min};
 ghost use lib.ListN.{length, getD, drop, replicate};
 ghost use lib.Ieee.{ofBits, binary32};
 ghost use Rattle.laws.specs.Lists.{tab};
-ghost use Rattle.call_log.specs.Log.{short, word, Places, sampleOf, floatOf, before, beforePeak, marked, headerOf, headerNumber, fieldOf, within, listed, fieldTaken, callTaken};
+ghost use Rattle.call_log.specs.Log.{short, word, Places, sampleOf, floatOf, before, beforePeak, marked, headerOf, headerNumber, within, listed, fieldTaken, callTaken};
 
 mod layout; // layout.rt: the fields of each kind of call
 

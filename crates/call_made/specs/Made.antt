@@ -56,11 +56,11 @@ peaks = tab 1024 beforePeak
 
 -- the part of an area that a length at the front of b lends
 abbrev pub lent : {A : Type 0} → List A → List ℕ → List A
-lent area b = take (count b) area
+lent room b = take (count b) room
 
 -- the area when that part has become x
 abbrev pub whole : {A : Type 0} → List A → List ℕ → List A → List A
-whole area b x = x ++ drop (count b) area
+whole room b x = x ++ drop (count b) room
 
 -- ---- the answers
 abbrev pub answerOf : ℕ → ℕ → Extra → List Float → ℕ → List Float → ℕ → List ℕ → ℕ → Answer

@@ -5,7 +5,7 @@ ghost use mathlib.Core.Bool.{cond};
 ghost use mathlib.Core.List.{[], _∷_, _++_};
 ghost use Prim.Native.Nat.{min};
 ghost use lib.IntN.{natAbs};
-ghost use lib.ListN.{length, take};
+ghost use lib.ListN.{take};
 ghost use Rattle.io.specs.Digits.{digits};
 ghost use Rattle.plain_text.specs.Text.{space, newline, decimal};
 ghost use Rattle.call_text.specs.Page.{page, written};

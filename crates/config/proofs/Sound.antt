@@ -12,7 +12,8 @@ use lib.Ieee.Fits.{and-l, and-r}
 use Rattle.laws.proofs.Table.{at, every}
 use Rattle.config.specs.Tables.{rows, edgeRows}
 use Rattle.config.specs.Config.{largest, valid, configs, row, nf, z, ne, nb, rate, duration, upper, half, edges, among, fftSizes, dctLengths, bandCounts}
-use Rattle.config.specs.Sound.{Rising, AllSound}
+use Rattle.laws.specs.Lists.{Rising}
+use Rattle.config.specs.Sound.{AllSound}
 
 abbrev rise : ℕ → List ℕ → ℕ → Bool
 rise zero es n = true

@@ -4,11 +4,8 @@ use mathlib.Core.List.{List}
 use Prim.Native.Nat.{ℕ, _+_, _-_, _*_, _≤_, _<_}
 use lib.Dec.{T}
 use lib.ListN.{getD, length}
+use Rattle.laws.specs.Lists.{Rising}
 use Rattle.config.specs.Config.{valid, nf, z, ne, nb, rate, duration, upper, half, edges, among, fftSizes, dctLengths, bandCounts}
-
--- m bands with the edges es: each has a line at least, and none goes past n
-abbrev pub Rising : ℕ → List ℕ → ℕ → Type 0
-Rising m es n = (b : ℕ) → b < m → (getD es b 0 < getD es (b + 1) 0) × (getD es (b + 1) 0 ≤ n)
 
 pub record Sound (c : ℕ) : Type 0 where
   -- a frame has twice as many samples as the FFT has points

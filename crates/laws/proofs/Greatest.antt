@@ -1,7 +1,7 @@
 -- The scan's place is the first with the greatest, and no other place is. Assumes nothing.
 use mathlib.Core.Path.{_≡_, refl, sym, _∙_}
 use mathlib.Core.Logic.{_⊎_, inl, inr, ⊎-elim}
-use mathlib.Core.Bool.{Bool, true, false, true≢false}
+use mathlib.Core.Bool.{true, false, true≢false}
 use mathlib.Core.List.{List}
 use Prim.Native.Nat.{ℕ, zero, suc, _+_, _≤_, _<_}
 use native.Mathlib.Nat.{not-suc-le-zero, le-of-suc-le-suc, eq-or-lt-of-le}
@@ -10,10 +10,11 @@ use native.Mathlib.Omega.{arith}
 use lib.Dec.{T, ltb}
 use lib.ListN.{length, getD}
 use lib.Ieee.{Float, nan, lt}
+use lib.Ieee.Bits.{is-true}
 use borrow.Author.Tests.{ltb-true, ltb-false}
 use Rattle.laws.specs.Passes.{ranked}
 use Rattle.laws.specs.Greatest.{First, better, best}
-use Rattle.laws.proofs.Bools.{outcomes, is-true, true-is}
+use Rattle.laws.proofs.Bools.{outcomes, holds}
 use Rattle.laws.proofs.Order.{above, asym, same-not}
 
 below-or-at : (k n : ℕ) → k < suc n → (k < n) ⊎ (k ≡ n)
@@ -50,7 +51,7 @@ module _ (l : List Float) (R : (k : ℕ) → k < length l → T (ranked (getD l 
   }
 
   ahead-more : (n b : ℕ) → n < length l → Ahead l n b → Ahead l (suc n) (better l b n)
-  ahead-more n b h a = ⊎-elim (λ e. rw e (takes n b h a (is-true e))) (λ e. rw e (keeps n b a e)) (outcomes (lt (getD l b nan) (getD l n nan)))
+  ahead-more n b h a = ⊎-elim (λ e. rw e (takes n b h a (holds e))) (λ e. rw e (keeps n b a e)) (outcomes (lt (getD l b nan) (getD l n nan)))
 
   best-ahead : (n : ℕ) → n < length l → Ahead l (suc n) (best l (suc n))
   unfolding best
@@ -85,13 +86,14 @@ pub scan-keeps : (l : List Float) (b i : ℕ) (v : Float) → b ≡ best l i →
 unfolding best
 scan-keeps l b i v e w t = rw (add-one i, ← e, ← w, t)
 
--- and no other place is
-pub first-only : {l : List Float} {a b : ℕ} → First l a → First l b → a ≡ b
-first-only {l} {a} {b} f g =
+-- two places of which neither can be before the other are one
+pub alone : {P : ℕ → Type 0} → ((a b : ℕ) → P a → P b → a < b → ⊥) → {a b : ℕ} → P a → P b → a ≡ b
+alone clash {a} {b} f g =
     ⊎-elim
     (λ u. absurd (clash a b f g (ltb-true a b u)))
     (λ u. elim (eq-or-lt-of-le (ltb-false a b u)) [ inl e ↦ sym e | inr h ↦ absurd (clash b a g f h) ])
     (outcomes (ltb a b))
-  where
-    clash : (a b : ℕ) → First l a → First l b → a < b → ⊥
-    clash a b f g h = true≢false (true-is (lt (getD l a nan) (getD l b nan)) (g .before a h) ∙ f .after b h (g .inside))
+
+-- so no other place is
+pub first-only : {l : List Float} {a b : ℕ} → First l a → First l b → a ≡ b
+first-only {l} = alone {P = First l} (λ a b f g h. true≢false (sym (is-true (lt (getD l a nan) (getD l b nan)) (g .before a h)) ∙ f .after b h (g .inside)))

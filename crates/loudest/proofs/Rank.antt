@@ -1,19 +1,19 @@
 -- Energies that pass 7 can be ranked; where the greatest of them is zero, and only there, all are. Assumes nothing.
-use mathlib.Core.Path.{_≡_, refl, sym, ap, _∙_, subst}
-use mathlib.Core.Logic.{_⊎_, inl, inr, ⊎-elim}
-use mathlib.Core.Bool.{Bool, true, false, not, cond, true≢false}
+use mathlib.Core.Path.{_≡_, sym, ap, _∙_}
+use mathlib.Core.Logic.{⊎-elim}
+use mathlib.Core.Bool.{Bool, true, false, true≢false}
 use mathlib.Core.List.{List, [], _∷_}
-use Prim.Native.Nat.{ℕ, zero, suc, _+_, _*_, _≤_, _<_}
-use native.Mathlib.Nat.{not-suc-le-zero, le-of-suc-le-suc, zero-mul, mul-pos, eq-or-lt-of-le, eq-zero-or-pos}
-use native.Mathlib.Numerals.{add-one}
+use Prim.Native.Nat.{ℕ, zero, suc, _*_, _≤_, _<_}
+use native.Mathlib.Nat.{not-suc-le-zero, le-of-suc-le-suc, zero-mul, mul-pos, eq-zero-or-pos}
 use native.Mathlib.Omega.{arith}
-use lib.Dec.{T, eqb, eqb→eq, ltb}
+use lib.Dec.{T, ltb}
 use lib.ListN.{length, getD}
 use lib.IntN.{pos}
 use lib.Ieee.{Float, nan, inf, fin, lt, up, down}
-use lib.Ieee.Fits.{up-pos, down-pos}
-use borrow.Author.Tests.{eq-eqb, ne-eqb, lt-ltb, eqb-true, ltb-true, ltb-false}
-use Rattle.laws.proofs.Bools.{outcomes, is-true, true-is}
+use lib.Ieee.Bits.{is-true}
+use lib.Ieee.Fits.{up-pos}
+use borrow.Author.Tests.{eq-eqb, ne-eqb, lt-ltb, eqb-true, ltb-true}
+use Rattle.laws.proofs.Bools.{outcomes, holds}
 use Rattle.laws.specs.Lists.{first}
 use Rattle.laws.specs.Passes.{passes7, ranked}
 use Rattle.laws.proofs.Lists.{first-none}
@@ -21,8 +21,7 @@ use Rattle.laws.proofs.Order.{above, ranked-7}
 use Rattle.laws.specs.Greatest.{best}
 use Rattle.laws.proofs.Greatest.{best-first, best-most}
 use Rattle.loudest.specs.Loudest.{silent, loud, loudest}
-use Rattle.loudest.specs.declared.Loudest.{Loudest}
-use Rattle.loudest.specs.declared.Loudest.the-variants.{Quiet, Loud}
+use Rattle.loudest.specs.declared.Loudest.the-variants.{Quiet}
 
 pub first-le : {A : Type 0} (p : A → Bool) (l : List A) → first p l ≤ length l
 unfolding first
@@ -71,7 +70,7 @@ not-above (fin false m e) p h =
 
 module _ (l : List Float) (some : 0 < length l) (all : first passes7 l ≡ length l) where
   pub ranked-all : (k : ℕ) → k < length l → T (ranked (getD l k nan))
-  ranked-all k h = ranked-7 (getD l k nan) (is-true (first-all passes7 l nan all k h))
+  ranked-all k h = ranked-7 (getD l k nan) (holds (first-all passes7 l nan all k h))
 
   pub inside : best l (length l) < length l
   inside = best-first l ranked-all some .inside
@@ -88,4 +87,4 @@ module _ (l : List Float) (some : 0 < length l) (all : first passes7 l ≡ lengt
       zero-ranked = tt
 
       each : (k : ℕ) → k < length l → silent (getD l k nan) ≡ true
-      each k u = silent-is (getD l k nan) (first-all passes7 l nan all k u) (⊎-elim (λ t. absurd (true≢false (true-is _ (above none (getD l (best l (length l)) nan) (getD l k nan) zero-ranked (ranked-all (best l (length l)) inside) (ranked-all k u) h (is-true t)) ∙ best-most l ranked-all some k u))) (λ f. f) (outcomes (lt none (getD l k nan))))
+      each k u = silent-is (getD l k nan) (first-all passes7 l nan all k u) (⊎-elim (λ t. absurd (true≢false (sym (is-true _ (above none (getD l (best l (length l)) nan) (getD l k nan) zero-ranked (ranked-all (best l (length l)) inside) (ranked-all k u) h (holds t))) ∙ best-most l ranked-all some k u))) (λ f. f) (outcomes (lt none (getD l k nan))))

@@ -9,11 +9,11 @@ use lib.Dec.{T}
 use lib.ListN.{length, getD, take, drop}
 use lib.Ieee.{Float}
 use borrow.Author.Tests.{le-leb, lt-leb}
-use Rattle.laws.specs.Lists.{tab}
+use Rattle.laws.specs.Lists.{tab, Rising}
 use Rattle.laws.proofs.Lists.{tab-ext}
 use Rattle.config.specs.Config.{valid, nf, nb, rate, upper, edges}
 use Rattle.config.proofs.Sound.{sound}
-use Rattle.measurement_steps.specs.Energy.{energy, energies, exceeds, Rising}
+use Rattle.measurement_steps.specs.Energy.{energy, energies, exceeds}
 use Rattle.measurement_steps.specs.Peak.{peaks}
 use Rattle.measurement_steps.proofs.Bands.{spaced, lone-energy, lone-place}
 use Rattle.measurement.specs.Measurement.{energiesOf, peaksOf, flagOf}

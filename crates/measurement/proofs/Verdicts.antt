@@ -12,7 +12,7 @@ use Rattle.laws.specs.Passes.{passes6}
 use Rattle.config.specs.Config.{valid, nf, nb}
 use Rattle.config.specs.declared.Verdict.{Verdict}
 use Rattle.config.proofs.Verdicts.{went-on}
-use Rattle.measurement.specs.Measurement.{energiesOf, peaksOf, flagOf, Lent, Given, number, verdict, measured, measures}
+use Rattle.measurement.specs.Measurement.{energiesOf, peaksOf, flagOf, Lent, Given, number, verdict, refusedBy, measured, measures}
 
 -- the verdict, from the tests one after the other; v is what the code's test of the configuration gave, k what its search gave
 module _ (c : ℕ) (x : Lent) {v : Bool} (e : v ≡ valid c) where
@@ -45,12 +45,11 @@ module _ (c : ℕ) (x : Lent) {v : Bool} (e : v ≡ valid c) where
           says-0 g = rw (ok, eq-eqb _ _ a, eq-eqb _ _ b, eq-eqb _ _ d, le-ltb _ _ (subst (λ (j : ℕ). length (x .lines) ≤ j) f g))
 
 -- a refused call
-pub refused : (c : ℕ) (x : Lent) (v : Verdict) → v ≡ verdict (number c x) x → (v .number ≡ 0 → ⊥)
-    → _≡_ {A = Given} (record { number = v .number; index = v .index; flag = false; energies = x .energies; peaks = x .peaks }) (measures c x)
+pub refused : (c : ℕ) (x : Lent) (v : Verdict) → v ≡ verdict (number c x) x → (v .number ≡ 0 → ⊥) → refusedBy (v .number) (v .index) x ≡ measures c x
 unfolding measures
-refused c x v e h = ap (λ (w : Verdict). record { number = w .number; index = w .index; flag = false; energies = x .energies; peaks = x .peaks }) e ∙ go (number c x) (λ n. h (ap (λ (w : Verdict). w .number) e ∙ n))
+refused c x v e h = ap (λ (w : Verdict). refusedBy (w .number) (w .index) x) e ∙ go (number c x) (λ n. h (ap (λ (w : Verdict). w .number) e ∙ n))
   where
-    go : (n : ℕ) → (n ≡ 0 → ⊥) → _≡_ {A = Given} (record { number = n; index = verdict n x .index; flag = false; energies = x .energies; peaks = x .peaks }) (measured n c x)
+    go : (n : ℕ) → (n ≡ 0 → ⊥) → refusedBy n (verdict n x .index) x ≡ measured n c x
     go zero h = absurd (h refl)
     go (suc n) h = refl
 

@@ -60,10 +60,14 @@ verdict n x = refusals.verdictOf n (first passes6 (x .lines))
 abbrev pub accepted : ℕ → List Float → Given
 accepted c l = record { number = refusals.accepted; index = 0; flag = flagOf c (energiesOf c l); energies = energiesOf c l; peaks = peaksOf c l }
 
--- by the number: a refused call writes nothing
+-- a refused call writes nothing
+abbrev pub refusedBy : ℕ → ℕ → Lent → Given
+refusedBy n i x = record { number = n; index = i; flag = false; energies = x .energies; peaks = x .peaks }
+
+-- by the number
 abbrev pub measured : ℕ → ℕ → Lent → Given
 measured zero c x = accepted c (x .lines)
-measured (suc n) c x = record { number = suc n; index = verdict (suc n) x .index; flag = false; energies = x .energies; peaks = x .peaks }
+measured (suc n) c x = refusedBy (suc n) (verdict (suc n) x .index) x
 
 -- what a measurement gives: the contract of `measure` cites this
 unfoldable pub measures : ℕ → Lent → Given

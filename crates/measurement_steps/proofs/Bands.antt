@@ -6,7 +6,8 @@ use native.Mathlib.Nat.{add-zero}
 use native.Mathlib.Omega.{arith}
 use lib.ListN.{getD, take, drop}
 use lib.Ieee.{Float}
-use Rattle.measurement_steps.specs.Energy.{energy, bandOf, Rising}
+use Rattle.laws.specs.Lists.{Rising}
+use Rattle.measurement_steps.specs.Energy.{energy, bandOf}
 use Rattle.measurement_steps.specs.Peak.{peak, peakOf}
 use Rattle.measurement_steps.proofs.Peaks.{lone-peak}
 

@@ -3,7 +3,7 @@ use mathlib.Core.Path.{_≡_, refl, sym, ap, subst, _∙_}
 use mathlib.Core.Logic.{⊎-elim}
 use mathlib.Core.Bool.{Bool, true, false, cond}
 use mathlib.Core.List.{List, [], _∷_}
-use Prim.Native.Nat.{ℕ, zero, suc, _+_, _≤_, _<_}
+use Prim.Native.Nat.{ℕ, _+_, _≤_, _<_}
 use native.Mathlib.Nat.{add-zero}
 use native.Mathlib.Omega.{arith}
 use lib.IntN.{pos}
@@ -17,8 +17,8 @@ use Rattle.laws.proofs.Lists.{getD-map}
 use Rattle.laws.proofs.Greatest.{best-within, scan-takes, scan-keeps}
 use Rattle.measurement_steps.specs.declared.Reading.{Reading}
 use Rattle.measurement_steps.specs.Energy.{sumOf}
-use Rattle.measurement_steps.specs.Peak.{square, squares, peak, upTo, whole, higher}
-use Rattle.measurement_steps.proofs.Sums.{stretch, Summed, shareBy, summed-on, summed-more, summed-all, is-energy}
+use Rattle.measurement_steps.specs.Peak.{square, squares, peak, shareBy, upTo, whole, higher}
+use Rattle.measurement_steps.proofs.Sums.{stretch, Summed, summed-on, summed-more, summed-all, is-energy}
 
 -- b has the scan's place among the first i lines, and its product
 pub record Topped (ls : List Float) (i : ℕ) (b : Reading) : Type 0 where
@@ -60,6 +60,11 @@ summed-of w ls n b e = ap (λ (x : Reading). x .energy) e
 pub topped-of : (w : Float) (ls : List Float) (n : ℕ) (b : Reading) → b ≡ upTo w ls n → Topped ls n b
 unfolding upTo
 topped-of w ls n b e = record { place = ap (λ (x : Reading). x .peak) e; product = ap (λ (x : Reading). x .greatest) e }
+
+-- before the first line
+pub start-is : (w : Float) (ls : List Float) (p : Float) → 0 < length ls → p ≡ square (getD ls 0 nan) → _≡_ {A = Reading} (record { energy = zero32; peak = 0; greatest = p }) (upTo w ls 0)
+unfolding upTo best
+start-is w ls p l e = let at = e ∙ sym (getD-map square ls 0 nan nan l) in λ j. record { energy = zero32; peak = 0; greatest = at j }
 
 -- the number of lines, another way
 pub at-place : (w : Float) (ls : List Float) (n m : ℕ) {b : Reading} → b ≡ upTo w ls n → n ≡ m → b ≡ upTo w ls m

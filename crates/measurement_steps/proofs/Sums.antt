@@ -15,6 +15,7 @@ use Rattle.laws.specs.Lists.{tab}
 use Rattle.laws.specs.Numbers.{zero32}
 use Rattle.laws.proofs.Lists.{tab-ext, take-tab}
 use Rattle.measurement_steps.specs.Energy.{sumOf, share, energy}
+use Rattle.measurement_steps.specs.Peak.{shareBy}
 
 -- n terms from place i on
 pub stretch : (n i : ℕ) (xs : List Float) → i + n ≤ length xs → take n (drop i xs) ≡ tab n (λ k. getD xs (i + k) nan)
@@ -43,10 +44,6 @@ summed-more f acc xs i s h b = summed-on f acc xs i 1 _ s _ h (simp (stretch 1 i
 
 pub summed-all : (f : Float → Float) (acc : Float) (xs : List Float) (i : ℕ) (s : Float) → Summed f acc xs i s → i ≡ length xs → s ≡ sumOf f acc xs
 summed-all f acc xs i s h e = h ∙ ap (λ (k : ℕ). sumOf f acc (take k xs)) e ∙ ap (sumOf f acc) (take-length xs)
-
--- a line's share, by the width as a number of the format
-abbrev pub shareBy : Float → Float → Float
-shareBy w x = div binary32 (mul binary32 x x) w
 
 -- the sum of all shares is the energy
 pub is-energy : (ls : List Float) (n : ℕ) (w s : Float) → s ≡ sumOf (shareBy w) zero32 ls → length ls ≡ n → w ≡ ofInt binary32 (pos n) → s ≡ energy ls

@@ -1,10 +1,10 @@
 -- The energies of the bands (`apply_energy_estimation`), and what the flag compares (`is_near_nyquist`). Definitions only.
-use mathlib.Core.Bool.{Bool, false}
+use mathlib.Core.Bool.{Bool}
 use mathlib.Core.List.{List, [], _∷_}
 use Prim.Native.Nat.{ℕ, _+_, _-_, _≤_, _<_}
 use lib.IntN.{pos}
 use lib.ListN.{length, getD, take, drop}
-use lib.Ieee.{Float, fin, binary32, ofBits, add, mul, div, lt, ofInt}
+use lib.Ieee.{Float, binary32, ofBits, add, mul, div, lt, ofInt}
 use Rattle.laws.specs.Numbers.{zero32}
 use Rattle.laws.specs.Lists.{tab}
 
@@ -36,7 +36,3 @@ total es = sumOf (λ x. x) zero32 es
 -- the bands from split on exceed 30.0 times those before it
 unfoldable pub exceeds : ℕ → List Float → Bool
 exceeds split es = lt (mul binary32 (ofBits binary32 0x41f00000) (total (take split es))) (total (drop split es))
-
--- the edges of nb bands rise, so that each has a line, and none is past n lines
-abbrev pub Rising : ℕ → List ℕ → ℕ → Type 0
-Rising nb edges n = (b : ℕ) → b < nb → (getD edges b 0 < getD edges (b + 1) 0) × (getD edges (b + 1) 0 ≤ n)

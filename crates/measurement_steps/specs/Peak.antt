@@ -30,10 +30,14 @@ unfoldable pub peaks : ℕ → List ℕ → List Float → List ℕ
 peaks nb edges lines = tab nb (peakOf edges lines)
 
 -- ---- for the contracts of the steps
+-- a line's share, by the width as a number of the format
+abbrev pub shareBy : Float → Float → Float
+shareBy width x = div binary32 (square x) width
+
 -- what a band of the given width has come to after its first n lines: the sum of their shares, the first of them with the greatest product, and that product
 unfoldable pub upTo : Float → List Float → ℕ → Reading
 upTo width lines n = record {
-  energy = sumOf (λ x. div binary32 (square x) width) zero32 (take n lines);
+  energy = sumOf (shareBy width) zero32 (take n lines);
   peak = best (squares lines) n;
   greatest = getD (squares lines) (best (squares lines) n) nan;
 }

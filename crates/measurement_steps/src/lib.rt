@@ -8,8 +8,8 @@ ghost use Prim.Native.Nat.{ℕ, _+_, _*_, _/_, _≤_, _<_};
 ghost use lib.ListN.{length, getD, take, drop};
 ghost use lib.Seq.{sets};
 ghost use lib.Ieee.{Float, nan};
-ghost use Rattle.laws.specs.Lists.{tab};
-ghost use Rattle.measurement_steps.specs.Energy.{energy, bandOf, energies, total, exceeds, Rising};
+ghost use Rattle.laws.specs.Lists.{tab, Rising};
+ghost use Rattle.measurement_steps.specs.Energy.{energy, bandOf, energies, total, exceeds};
 ghost use Rattle.measurement_steps.specs.Peak.{square, peakOf, peaks, higher, upTo, whole, placed};
 
 // What a band has come to: the sum of its lines' shares, the first line with the greatest product, and that product.
@@ -93,7 +93,7 @@ fn three(lines: &[f32], i: usize, width: f32, b: Reading) -> Reading
     more(lines, i + 2, width, two(lines, i, width, b))
 }
 
-// Four lines more. Their shares are worked out first, so that the compiler divides several at once.
+// Four lines more. Their products are worked out first, so that the compiler divides several at once.
 fn four(lines: &[f32], i: usize, width: f32, b: Reading) -> Reading
     requires { ⌜ (i + 4 ≤ length (now lines)) × (b ≡ upTo width (now lines) i) ⌝ }
     ensures { λ r. ⌜ r ≡ upTo width (now (lines .entry)) (i + 4) ⌝ }
@@ -138,8 +138,8 @@ fn many(lines: &[f32]) -> Reading
     rest(lines, n / 4 * 4, width, b)
 }
 
-// Inner. One band, from its lines. The bands of few lines, which are many, are spared the loop.
-pub fn measured(lines: &[f32]) -> Reading
+// One band, from its lines. The bands of few lines, which are many, are spared the loop.
+fn measured(lines: &[f32]) -> Reading
     requires { ⌜ (0 < length (now lines)) × (length (now lines) ≤ 480) ⌝ }
     ensures { λ r. ⌜ r ≡ whole (now (lines .entry)) ⌝ }
 {
@@ -210,7 +210,7 @@ fn singles(lines: &[f32], edges: &[usize], out: &mut [f32], places: &mut [usize]
     q
 }
 
-// Reading b: its energy, and its peak from line 0 of the frame.
+// Band b: its energy, and its peak from line 0 of the frame.
 fn band(lines: &[f32], edges: &[usize], b: usize) -> Reading
     requires { ⌜ (length (now lines) ≤ 480) × (b + 1 < length (now edges)) × (getD (now edges) b 0 < getD (now edges) (b + 1) 0) × (getD (now edges) (b + 1) 0 ≤ length (now lines)) ⌝ }
     ensures { λ r. ⌜ r ≡ placed (getD (now (edges .entry)) b 0) (whole (bandOf (now (edges .entry)) (now (lines .entry)) b)) ⌝ }

@@ -1,23 +1,20 @@
 -- Document 02 §12: the peaks of an accepted measurement, and what a measurement gives beside them. Assumes nothing.
 use Prim.Native.Nat.{ℕ, zero, suc, _+_, _-_, _≤_, _<_}
-use native.Mathlib.Nat.{eq-or-lt-of-le}
 use native.Mathlib.Omega.{arith}
 use mathlib.Core.Path.{_≡_, refl, sym, ap, subst, _∙_}
-use mathlib.Core.Logic.{_⊎_, inl, inr, ⊎-elim}
 use mathlib.Core.Bool.{Bool, true, false, not, cond, true≢false}
 use mathlib.Core.List.{List}
 use lib.Dec.{T, eqb, ltb}
 use lib.ListN.{length, getD}
-use lib.Ieee.{Float, nan, inf, fin, binary32, ofBits, ofFields, odd, units, round, mul, lt}
+use lib.Ieee.{Float, nan, inf, fin, ofBits, ofFields, odd, units, round, mul, lt}
 use lib.Count.{trailingZeros}
 use lib.Ieee.Bits.{is-true}
-use borrow.Author.Tests.{eq-eqb, ne-eqb, ltb-true, ltb-false}
+use borrow.Author.Tests.{eq-eqb, ne-eqb, ltb-false}
 use Rattle.laws.specs.Lists.{tab, first}
 use Rattle.laws.specs.Passes.{passes6, ranked}
 use Rattle.laws.specs.Greatest.{First, best}
-use Rattle.laws.proofs.Bools.{outcomes, true-is}
 use Rattle.laws.proofs.Lists.{length-tab, getD-tab, length-map, getD-map}
-use Rattle.laws.proofs.Greatest.{best-first, best-most}
+use Rattle.laws.proofs.Greatest.{best-first, best-most, alone}
 use Rattle.config.specs.Tables.{rows, edgeRows}
 use Rattle.config.specs.Config.{valid, row, nf, nb, edges}
 use Rattle.config.proofs.Sound.{sound}
@@ -25,7 +22,7 @@ use Rattle.measurement_steps.specs.Energy.{bandOf}
 use Rattle.measurement_steps.specs.Peak.{square, squares, peak, peakOf, peaks}
 use Rattle.measurement_steps.proofs.Sums.{stretch}
 use Rattle.measurement.specs.Measurement as measurement
-use Rattle.measurement.specs.Measurement.{Lent, peaksOf, measures}
+use Rattle.measurement.specs.Measurement.{Lent, peaksOf, refusedBy, measures}
 use Rattle.measurement.proofs.Verdicts as verdicts
 use Rattle.measurement.proofs.Verdicts.{tells, by-number}
 use Rattle.loudest.proofs.Rank.{first-le, first-all}
@@ -33,7 +30,7 @@ use Rattle.bounds.proofs.Bound.{Plus, sized}
 use Rattle.bounds.proofs.Energies.{square-plus}
 use Rattle.bounds.proofs.Samples.{six-within}
 use Rattle.promises.specs.Bare as bare
-use Rattle.promises.specs.Peaks.{product, InBand, Peak, unpeaked, without, refusedBy, tested, Peaks}
+use Rattle.promises.specs.Peaks.{product, InBand, Peak, unpeaked, without, tested, Peaks}
 
 -- ---- products of lines that pass 6 can be ranked
 plus-ranked : (x : Float) → Plus x → T (ranked x)
@@ -109,24 +106,9 @@ module _ (c : ℕ) (v : T (valid c)) (l : List Float) (long : length l ≡ nf c)
       }
 
 only : (c : ℕ) (l : List Float) (b p q : ℕ) → Peak c l b p → Peak c l b q → p ≡ q
-only c l b p q f g =
-    ⊎-elim
-    (λ u. absurd (clash p q f g (ltb-true p q u)))
-    (λ u. elim (eq-or-lt-of-le (ltb-false p q u)) [ inl e ↦ sym e | inr h ↦ absurd (clash q p g f h) ])
-    (outcomes (ltb p q))
-  where
-    clash : (p q : ℕ) → Peak c l b p → Peak c l b q → p < q → ⊥
-    clash p q f g h = true≢false (true-is (lt (product l p) (product l q)) (g .before p (f .inside) h) ∙ f .most q (g .inside))
+only c l b p q = alone {P = Peak c l b} (λ p q f g h. true≢false (sym (is-true (lt (product l p) (product l q)) (g .before p (f .inside) h)) ∙ f .most q (g .inside)))
 
--- ---- a call by its number
-bare-tells : (c : ℕ) (x : bare.Lent) → bare.measures c x .number ≡ bare.number c x
-unfolding bare.measures
-bare-tells c x = go (bare.number c x)
-  where
-    go : (n : ℕ) → bare.measured n c x .number ≡ n
-    go zero = refl
-    go (suc n) = refl
-
+-- ---- a call by its number, beside the call of before
 as-before : (c : ℕ) (x : Lent) → length (x .peaks) ≡ nb c → without (measures c x) ≡ bare.measures c (unpeaked x)
 unfolding measures bare.measures
 as-before c x e = go (measurement.number c x) ∙ ap (λ (n : ℕ). bare.measured n c (unpeaked x)) same
@@ -138,14 +120,13 @@ as-before c x e = go (measurement.number c x) ∙ ap (λ (n : ℕ). bare.measure
     go zero = refl
     go (suc n) = refl
 
-unfit : (c : ℕ) (x : Lent) → (length (x .peaks) ≡ nb c → ⊥) → measures c x ≡ refusedBy (tested (bare.measures c (unpeaked x) .number)) 0 x
+unfit : (c : ℕ) (x : Lent) → (length (x .peaks) ≡ nb c → ⊥) → measures c x ≡ refusedBy (tested (bare.number c (unpeaked x))) 0 x
 unfit c x d =
     let p = not (valid c) in
     let q = not (eqb (length (x .lines)) (nf c)) in
     let r = not (eqb (length (x .energies)) (nb c)) in
     by-number c x (cond p 1 (cond q 3 (cond r 5 5))) (rw (ne-eqb (length (x .peaks)) (nb c) d))
     ∙ go p q r (ltb (first passes6 (x .lines)) (length (x .lines)))
-    ∙ ap (λ (n : ℕ). refusedBy (tested n) 0 x) (sym (bare-tells c (unpeaked x)))
   where
     go : (p q r s : Bool) → measurement.measured (cond p 1 (cond q 3 (cond r 5 5))) c x ≡ refusedBy (tested (cond p 1 (cond q 3 (cond r 5 (cond s 6 0))))) 0 x
     go true q r s = refl
@@ -173,8 +154,8 @@ module _ (c : ℕ) (x : Lent) (h : measures c x .number ≡ 0) where
   ok : verdicts.Passed c x
   ok = verdicts.passed c x accepted
 
-  all-pass : (k : ℕ) → k < length (x .lines) → T (passes6 (getD (x .lines) k nan))
-  all-pass k i =
+  pass-6 : (k : ℕ) → k < length (x .lines) → T (passes6 (getD (x .lines) k nan))
+  pass-6 k i =
       let p = ok in
       let e = rw (is-true (valid c) (p .is-valid), eq-eqb _ _ (p .lines-is), eq-eqb _ _ (p .energies-is), eq-eqb _ _ (p .peaks-is)) at accepted in
       let done = last (ltb (first passes6 (x .lines)) (length (x .lines))) e in
@@ -195,10 +176,10 @@ module _ (c : ℕ) (x : Lent) (h : measures c x .number ≡ 0) where
     is-peak = ap (λ (l : List ℕ). getD l b 0) gives ∙ getD-tab (nb c) _ 0 b i
 
     each : Peak c (x .lines) b (getD (measures c x .peaks) b 0)
-    each = subst (Peak c (x .lines) b) (sym is-peak) (peaked c (ok .is-valid) (x .lines) (ok .lines-is) all-pass b i)
+    each = subst (Peak c (x .lines) b) (sym is-peak) (peaked c (ok .is-valid) (x .lines) (ok .lines-is) pass-6 b i)
 
     words : First (squares (bandOf (edges c) (x .lines) b)) (peak (bandOf (edges c) (x .lines) b)) × (getD (measures c x .peaks) b 0 ≡ peakOf (edges c) (x .lines) b)
-    words = (in-words c (ok .is-valid) (x .lines) (ok .lines-is) all-pass b i, is-peak)
+    words = (in-words c (ok .is-valid) (x .lines) (ok .lines-is) pass-6 b i, is-peak)
 
 -- THE STATEMENT
 pub peaked-measurements : Peaks

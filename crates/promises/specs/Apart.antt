@@ -18,14 +18,13 @@ use Rattle.analysis.specs.declared.Channel.{Channel}
 use Rattle.analysis_lines.specs.Lines.{linesOf}
 use Rattle.analysis.specs.Analysis.{Lent, frames, held, keptOf, channelOf, lent}
 use Rattle.measurement.specs.Measurement as measurement
-use Rattle.measurement.specs.Measurement.{peaksOf, measures}
+use Rattle.measurement.specs.Measurement.{peaksOf, refusedBy, measures}
 use Rattle.bounds.specs.Within.{Each}
 use Rattle.promises.specs.Sequence.{Call, frame, fresh, clears, accepts, after, recall, Shared}
 use Rattle.promises.specs.AnalysisChannel.{analysis, value}
 use Rattle.promises.specs.Combined as combined
 use Rattle.promises.specs.Flags.{edge}
 use Rattle.promises.specs.NoOverflow.{Sample, FromClear, OnAny}
-use Rattle.promises.specs.Peaks.{refusedBy}
 
 -- ---- both in turn
 -- what the two give beside the channel: number and index of the first that is refused, the measurement's flag, and the lent slices at their end
@@ -101,7 +100,7 @@ pub record Apart : Type 0 where
       → inTurn a x p .0 .number ≡ old a x p .0 .number
   -- Where the first call refuses, all is as the old call left it: nothing is written, and the channel is the one handed in.
   pub first-refused : (a : Channel) (x : combined.Lent) (p : List ℕ) → (frames a (lent (x .input) (x .lines)) .0 .number ≡ refusals.accepted → ⊥) → inTurn a x p ≡ old a x p
-  -- The one difference: where the old call refused the energies' length, the frame is accepted now. Its lines are written and its channel has moved on; the
+  -- Where it is not so: where the old call refused the energies' length, the frame is accepted now. Its lines are written and its channel has moved on; the
   -- measurement alone is refused, and its areas are as they were.
   pub second-refused : (a : Channel) (x : combined.Lent) (p : List ℕ) → old a x p .0 .number ≡ refusals.badEnergies → inTurn a x p ≡ unmeasured a x p
   -- And so where the old call accepted and the peaks' length is wrong.
@@ -122,7 +121,7 @@ pub record Apart : Type 0 where
       → inTurn (after analysis a (frame f ∷ qs)) x p .0 ≡ inTurn (after analysis b (frame g ∷ rs)) y q .0
   -- "6 now also applies to the second call's lines, tested last", on each side of its edges. Two lines of 2^60 pass.
   pub at-the-bound : measures 0 (loud 0x5d800000 60) .number ≡ refusals.accepted
-  -- One bit more in two lines: 6, with the first of them, and the energies' room as it was.
+  -- One bit more in two lines: 6, with the first of them, and both rooms as they were.
   pub above-it : measures 0 (loud 0x5d800001 60) ≡ refusedBy refusals.badValue 7 (loud 0x5d800001 60)
   -- The same with a room that is one short: 5.
   pub tested-last : measures 0 (loud 0x5d800001 59) ≡ refusedBy refusals.badEnergies 0 (loud 0x5d800001 59)

@@ -8,6 +8,6 @@ pub mod Papers
 pub mod Short
 pub mod NoOverflow
 pub mod Combined
-pub mod Apart
 pub mod Bare
 pub mod Peaks
+pub mod Apart

@@ -12,7 +12,7 @@ use Rattle.config.specs.Config.{nb, edges}
 use Rattle.config.specs.Refusals as refusals
 use Rattle.measurement_steps.specs.Energy.{bandOf}
 use Rattle.measurement_steps.specs.Peak.{square, squares, peak}
-use Rattle.measurement.specs.Measurement.{Lent, Given, measures, lent}
+use Rattle.measurement.specs.Measurement.{Lent, Given, refusedBy, measures, lent}
 use Rattle.promises.specs.Bare as bare
 
 -- the product of line k of the frame
@@ -38,10 +38,6 @@ unpeaked x = record { lines = x .lines; energies = x .energies }
 
 abbrev pub without : Given → bare.Given
 without g = record { number = g .number; index = g .index; flag = g .flag; energies = g .energies }
-
--- what a measurement gives beside a refusal
-abbrev pub refusedBy : ℕ → ℕ → Lent → Given
-refusedBy n i x = record { number = n; index = i; flag = false; energies = x .energies; peaks = x .peaks }
 
 -- "the peaks' length is tested by 5, after the energies", so before 6: what is refused before stays, and what passed or was refused by 6 is refused by 5
 abbrev pub tested : ℕ → ℕ
@@ -70,7 +66,7 @@ pub record Peaks : Type 0 where
   -- of any lines and any other room.
   pub as-before : (c : ℕ) (x : Lent) → length (x .peaks) ≡ nb c → without (measures c x) ≡ bare.measures c (unpeaked x)
   -- "The peaks' length is tested by 5, after the energies": where it is wrong the call is refused, whatever the lines, and nothing is written.
-  pub unfit : (c : ℕ) (x : Lent) → (length (x .peaks) ≡ nb c → ⊥) → measures c x ≡ refusedBy (tested (bare.measures c (unpeaked x) .number)) 0 x
+  pub unfit : (c : ℕ) (x : Lent) → (length (x .peaks) ≡ nb c → ⊥) → measures c x ≡ refusedBy (tested (bare.number c (unpeaked x))) 0 x
   -- A refusal touches neither area.
   pub untouched : (c : ℕ) (x : Lent) → (measures c x .number ≡ refusals.accepted → ⊥) → (measures c x .energies ≡ x .energies) × (measures c x .peaks ≡ x .peaks)
   -- Two lines of a band: 1.0 and 2.0, the second, from line 0 of the frame.

@@ -1,11 +1,6 @@
 -- `loudest::answer` meets its contract: the scan's energy is above zero where some energy is, and only there. Assumes nothing.
-use mathlib.Core.Path.{_≡_, refl, sym, ap, _∙_, subst}
-use Prim.Native.Nat.{ℕ, _<_}
 use native.Mathlib.Omega.{arith}
-use lib.ListN.{length, getD}
-use lib.Ieee.{lt, nan, ofBits}
-use Rattle.laws.specs.Greatest.{best}
-use Rattle.loudest.specs.Loudest.{loud}
+use lib.Ieee.{ofBits}
 use Rattle.loudest.proofs.Rank.{inside, loud-is, quiet-is}
 use borrow.Author.Needs.{needs}
 use Rattle.loudest.proofs.answer.Statement.{statement}

@@ -1,11 +1,10 @@
 -- `loudest::scan` meets its contract. The invariant: the band is the best of the places passed, and its value is at hand. Assumes nothing.
 use mathlib.Core.Path.{_≡_, refl, sym, ap, _∙_}
 use mathlib.Core.Logic.{⊎-elim}
-use Prim.Native.Nat.{ℕ, suc, _-_, _≤_}
-use native.Mathlib.Numerals.{add-one}
+use Prim.Native.Nat.{ℕ, _-_, _≤_}
 use native.Mathlib.Omega.{arith}
 use lib.ListN.{length, getD}
-use lib.Ieee.{nan, lt}
+use lib.Ieee.{nan}
 use borrow.Author.Needs.{needs}
 use Rattle.laws.specs.Greatest.{best}
 use Rattle.laws.proofs.Greatest.{scan-takes, scan-keeps}

@@ -1,5 +1,5 @@
 -- `apply_energy_estimation` meets its contract. The loop's invariant: the first b places of both slices are filled with their bands' energies and peaks. Assumes nothing.
-use mathlib.Core.Path.{_≡_, ap, _∙_}
+use mathlib.Core.Path.{_≡_, ap}
 use Prim.Native.Nat.{ℕ, _-_, _≤_}
 use native.Mathlib.Omega.{arith}
 use lib.ListN.{length}
