@@ -1,7 +1,7 @@
 -- The energies of the bands (`apply_energy_estimation`), and what the flag compares (`is_near_nyquist`). Definitions only.
 use mathlib.Core.Bool.{Bool}
 use mathlib.Core.List.{List, [], _∷_}
-use Prim.Native.Nat.{ℕ, _+_, _-_, _≤_, _<_}
+use Prim.Native.Nat.{ℕ, _+_, _-_}
 use lib.IntN.{pos}
 use lib.ListN.{length, getD, take, drop}
 use lib.Ieee.{Float, binary32, ofBits, add, mul, div, lt, ofInt}
