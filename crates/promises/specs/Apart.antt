@@ -100,7 +100,7 @@ pub record Apart : Type 0 where
       → inTurn a x p .0 .number ≡ old a x p .0 .number
   -- Where the first call refuses, all is as the old call left it: nothing is written, and the channel is the one handed in.
   pub first-refused : (a : Channel) (x : combined.Lent) (p : List ℕ) → (frames a (lent (x .input) (x .lines)) .0 .number ≡ refusals.accepted → ⊥) → inTurn a x p ≡ old a x p
-  -- Where it is not so: where the old call refused the energies' length, the frame is accepted now. Its lines are written and its channel has moved on; the
+  -- The difference to the old call: where that refused the energies' length, the frame is accepted now. Its lines are written and its channel has moved on; the
   -- measurement alone is refused, and its areas are as they were.
   pub second-refused : (a : Channel) (x : combined.Lent) (p : List ℕ) → old a x p .0 .number ≡ refusals.badEnergies → inTurn a x p ≡ unmeasured a x p
   -- And so where the old call accepted and the peaks' length is wrong.
