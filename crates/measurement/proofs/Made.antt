@@ -1,5 +1,5 @@
 -- What the callees ensure, put together, is the definition of the measurement. Assumes nothing.
-use mathlib.Core.Path.{_≡_, refl, sym, ap, ap₂, subst, _∙_}
+use mathlib.Core.Path.{_≡_, sym, ap, ap₂, subst, _∙_}
 use mathlib.Core.Bool.{Bool, false}
 use mathlib.Core.List.{List}
 use Prim.Native.Nat.{ℕ, _+_, _-_, _≤_, _<_}
@@ -24,13 +24,9 @@ edges-rise c n m es v p q e =
     let s = sound c v in
     subst (λ (l : List ℕ). Rising n l m) (sym e) (λ b h. let r = s .rising b (omega arith) in (omega arith, omega arith))
 
-pub made-energies : (c n : ℕ) (es : List ℕ) (l out : List Float) → n ≡ nb c → es ≡ edges c → out ≡ energies n es l → out ≡ energiesOf c l
-unfolding energiesOf
-made-energies c n es l out p q h = h ∙ ap₂ (λ (m : ℕ) (v : List ℕ). energies m v l) p q
-
-pub made-peaks : (c n : ℕ) (es : List ℕ) (l : List Float) (out : List ℕ) → n ≡ nb c → es ≡ edges c → out ≡ peaks n es l → out ≡ peaksOf c l
-unfolding peaksOf
-made-peaks c n es l out p q h = h ∙ ap₂ (λ (m : ℕ) (v : List ℕ). peaks m v l) p q
+-- what is made by the edges at hand is made by the configuration's
+pub by-edges : {A : Type 0} (f : ℕ → List ℕ → A) (c : ℕ) {n : ℕ} {es : List ℕ} {out : A} → n ≡ nb c → es ≡ edges c → out ≡ f n es → out ≡ f (nb c) (edges c)
+by-edges f c p q h = h ∙ ap₂ f p q
 
 -- as many bands as lines: band b is line b
 module _ (c n : ℕ) (l : List Float) (v : T (valid c)) (p : n ≡ nb c) (q : length l ≡ nf c) (e : n ≡ length l) where
@@ -41,15 +37,17 @@ module _ (c n : ℕ) (l : List Float) (v : T (valid c)) (p : n ≡ nb c) (q : le
       let all = spaced (edges c) 0 n (λ k u. rw zero-add (s .rising k (omega arith) .0)) (rw zero-add (omega (arith, end))) b h in
       (rw zero-add at all) ∙ omega (arith, s .edges-from)
 
-  pub made-ones : (out : List Float) → out ≡ tab n (λ b. energy (take 1 (drop b l))) → out ≡ energiesOf c l
-  unfolding energies
-  made-ones out h =
-      made-energies c n (edges c) l out p refl (h ∙ tab-ext n _ _ (λ b u. lone-energy (edges c) l b b (sym (is-line b (omega arith))) (is-line (b + 1) (omega arith))))
+  -- so what is made line by line is made band by band, where line b and band b give the same
+  by-lines : {A : Type 0} {f g : ℕ → A} {out : List A} → ((b : ℕ) → b ≡ getD (edges c) b 0 → getD (edges c) (b + 1) 0 ≡ b + 1 → f b ≡ g b) → out ≡ tab n f → out ≡ tab (nb c) g
+  by-lines {g = g} h e = e ∙ tab-ext n _ _ (λ b u. h b (sym (is-line b (omega arith))) (is-line (b + 1) (omega arith))) ∙ ap (λ (m : ℕ). tab m g) p
 
-  pub made-own : (out : List ℕ) → out ≡ tab n (λ b. b) → out ≡ peaksOf c l
-  unfolding peaks
-  made-own out h =
-      made-peaks c n (edges c) l out p refl (h ∙ tab-ext n _ _ (λ b u. lone-place (edges c) l b b (sym (is-line b (omega arith))) (is-line (b + 1) (omega arith))))
+  pub made-ones : {out : List Float} → out ≡ tab n (λ b. energy (take 1 (drop b l))) → out ≡ energiesOf c l
+  unfolding energiesOf energies
+  made-ones = by-lines (λ b. lone-energy (edges c) l b b)
+
+  pub made-own : {out : List ℕ} → out ≡ tab n (λ b. b) → out ≡ peaksOf c l
+  unfolding peaksOf peaks
+  made-own = by-lines (λ b. lone-place (edges c) l b b)
 
 -- the flag, above 32 kHz and up to it
 pub flag-off : (c : ℕ) (es : List Float) → 32000 < rate c → false ≡ flagOf c es

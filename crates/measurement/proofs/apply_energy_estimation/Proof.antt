@@ -4,7 +4,10 @@ use native.Mathlib.Omega.{arith}
 use lib.ListN.{length}
 use borrow.Author.Needs.{needs}
 use Rattle.config.proofs.Sound.{sound}
-use Rattle.measurement.proofs.Made.{edges-rise, made-energies, made-peaks, made-ones, made-own}
+use Rattle.measurement_steps.specs.Energy.{energies}
+use Rattle.measurement_steps.specs.Peak.{peaks}
+use Rattle.measurement.specs.Measurement.{energiesOf, peaksOf}
+use Rattle.measurement.proofs.Made.{edges-rise, by-edges, made-ones, made-own}
 use Rattle.measurement.proofs.apply_energy_estimation.Statement.{statement}
 use Rattle.measurement.proofs.apply_energy_estimation.Tie as tie
 
@@ -14,7 +17,7 @@ returns c =
     let n = length (s .args .energies .now) in
     let ls = s .args .lines .now in
     let wrote = c .before .before .before .before .ones .ensures in
-    (made-ones (s .args .c) n ls (s .pre .0) (s .pre .2) (s .pre .1) (omega arith) _ (wrote .0), made-own (s .args .c) n ls (s .pre .0) (s .pre .2) (s .pre .1) (omega arith) _ (wrote .1))
+    (made-ones (s .args .c) n ls (s .pre .0) (s .pre .2) (s .pre .1) (omega arith) (wrote .0), made-own (s .args .c) n ls (s .pre .0) (s .pre .2) (s .pre .1) (omega arith) (wrote .1))
 
 apply-energy-estimation-requires : tie.Need-apply-energy-estimation-requires
 apply-energy-estimation-requires c κs =
@@ -24,13 +27,13 @@ apply-energy-estimation-requires c κs =
     (omega arith, omega (arith, ap length e), omega arith, edges-rise (st .args .c) _ _ _ (st .pre .0) (st .pre .2) (st .pre .1) e)
 
 returns-2 : tie.Need-returns-2
+unfolding energiesOf peaksOf
 returns-2 c =
     let s = c .before .before .before .before .before .before .before .before .before .before .before .before .before in
-    let n = length (s .args .energies .now) in
     let ls = s .args .lines .now in
     let e = c .before .before .before .before .before .before .before .before .edges .ensures in
     let wrote = c .before .before .before .before .apply-energy-estimation .ensures in
-    (made-energies (s .args .c) n _ ls _ (s .pre .2) e (wrote .0), made-peaks (s .args .c) n _ ls _ (s .pre .2) e (wrote .1))
+    (by-edges (λ n es. energies n es ls) (s .args .c) (s .pre .2) e (wrote .0), by-edges (λ n es. peaks n es ls) (s .args .c) (s .pre .2) e (wrote .1))
 
 pub apply-energy-estimation-spec : {M : Type 1} → statement M
 apply-energy-estimation-spec =
