@@ -16,13 +16,13 @@ def columns():
     return (list(map(int, column)) for column in zip(*rows('configs.txt'), strict=True))
 
 
-VERSION = 2
+VERSION = 3
 HEADER = b'LMC' + struct.pack('<H', VERSION)
 _, DURATION, RATE, NF, Z, NE, NB, UPPER = columns()  # durations in microseconds, rates in Hz
 EDGES = [list(map(int, edges)) for _, *edges in rows('bands.txt')]
+WIDTHS = [[high - low for low, high in zip(edges, edges[1:])] for edges in EDGES]  # the number of lines of each band
 SIZES = sorted({n // 2 for n in NF})
 LENGTHS = sorted(set(NF))
-BAND_COUNTS = sorted(set(NB))
 ROOM = 300
 
 
@@ -71,8 +71,8 @@ def dct(length, values):
     return struct.pack('<BH', 6, length) + floats(values)
 
 
-def loudest(energies):
-    return bytes([7]) + floats(energies)
+def loudest(config, energies):
+    return bytes([7, config]) + floats(energies)
 
 
 def show():

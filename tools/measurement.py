@@ -1,5 +1,5 @@
-"""The measurement call of document 02 §5 and §12, from the papers' text alone: its refusals in their order, and every operation rounded once to f32. And what a
-frame to lines answers, measured or not, but for the lines themselves.
+"""The measurement call of document 02 §5 and §12 and the loudest band of its §2, from the papers' text alone: their refusals in their order, and every operation
+rounded once to f32. And what a frame to lines answers, measured or not, but for the lines themselves.
 
 f64 holds a product of two f32, and of their quotient and sum enough that rounding twice is rounding once."""
 import math
@@ -9,6 +9,7 @@ import answers
 import lmc
 
 LIMIT = 0x5D800000  # 2^60
+INFINITY, MINUS_ZERO = 0x7F800000, 0x80000000
 
 
 def value(pattern):
@@ -86,10 +87,16 @@ def answer(config, patterns, room, peak_room):
     return answers.Answer(12, 0, 0, str(int(near_nyquist(config, found))), areas)
 
 
-def asked(call):
-    """What a call's bytes hand in: the configuration, the lines, and how many places the energies have and the peaks."""
+def given(call):
+    """What the bytes of a call of kind 7 or 12 begin with: the configuration, and the values by their bits."""
     config, count = struct.unpack_from('<BH', call, 1)
-    return (config, struct.unpack_from(f'<{count}I', call, 4), *struct.unpack_from('<HH', call, 4 + 4 * count))
+    return config, struct.unpack_from(f'<{count}I', call, 4)
+
+
+def asked(call):
+    """What a call of kind 12 hands in: the configuration, the lines, and how many places the energies have and the peaks."""
+    config, lines = given(call)
+    return (config, lines, *struct.unpack_from('<HH', call, 4 + 4 * len(lines)))
 
 
 def of_call(call):
@@ -116,3 +123,33 @@ def of_frame(config, call, lines):
         return answers.Answer(kind, 0, 0, '-', [('lines', lines)])
     measured = answer(config, [int(place.replace('nan', '7fc00000'), 16) for place in lines], *rooms)
     return measured._replace(kind=kind, areas=[('lines', lines), *measured.areas])
+
+
+def loudest_refusal(config, patterns):
+    """The number and the index of energies by their bits, of which the loudest is asked for."""
+    if config >= len(lmc.NF):
+        return 1, 0
+    if len(patterns) != lmc.NB[config]:
+        return 5, 0
+    failing = [place for place, pattern in enumerate(patterns) if pattern >= INFINITY and pattern != MINUS_ZERO]
+    return (7, failing[0]) if failing else (0, 0)
+
+
+def products(config, found):
+    """Each band's energy times the number of its lines, which may be infinite."""
+    return [rounded(x * width) for x, width in zip(found, lmc.WIDTHS[config], strict=True)]
+
+
+def loudest(config, patterns):
+    """What the loudest band answers of energies by their bits: of equals the first, and none where all are zeros."""
+    number, index = loudest_refusal(config, patterns)
+    if number or not set(patterns) - {0, MINUS_ZERO}:
+        return answers.Answer(7, number, index, '-', [])
+    ranked = products(config, map(value, patterns))
+    greatest = max(ranked)
+    return answers.Answer(7, 0, 0, str(ranked.index(greatest)), [('energy', [f'{lmc.bits(greatest):08x}'])])
+
+
+def loudest_of_call(call):
+    """What a call of kind 7 answers."""
+    return loudest(*given(call))

@@ -1,7 +1,7 @@
 //! The log of calls: its bytes taken apart. A call that is cut, unknown or too long is `None`.
 
 /// The version that is taken.
-const VERSION: u16 = 2;
+const VERSION: u16 = 3;
 /// The most that a count or an area's length may be.
 const MOST: usize = 1024;
 /// How many places a channel's array has.
@@ -15,7 +15,7 @@ pub enum Call {
     Synthesise { lines: Vec<f32>, samples: usize },
     Fft { size: usize, inverse: bool, re: Vec<f32>, im: Vec<f32>, re_out: usize, im_out: usize },
     Dct { length: usize, values: Vec<f32> },
-    Loudest(Vec<f32>),
+    Loudest { config: u8, energies: Vec<f32> },
     Show,
     SetAnalysis(u8, Vec<i16>),
     SetSynthesis(u8, Vec<f32>),
@@ -99,7 +99,7 @@ impl<'a> Log<'a> {
                 im_out: self.count(MOST)?,
             },
             6 => Call::Dct { length: self.short()? as usize, values: self.floats(MOST)? },
-            7 => Call::Loudest(self.floats(MOST)?),
+            7 => Call::Loudest { config: self.byte()?, energies: self.floats(MOST)? },
             8 => Call::Show,
             9 => Call::SetAnalysis(self.byte()?, self.samples(ROOM)?),
             10 => Call::SetSynthesis(self.byte()?, self.floats(ROOM)?),

@@ -2,7 +2,8 @@
 //! Refusals, peaks, the loudest band and channels that came from no clear are decided here, from the paper's text.
 //! `crate::common`, `encoder`, `decoder` and `tables` are lc3-codec's own files, unchanged; the crate `short_frames` is their copy, which runs the
 //! configurations that lc3-codec does not have, and nothing else. A frame, measured or not, is lc3-codec's `run`, which does both at once; a measurement
-//! alone is the two functions that `run` measures with. lc3-codec has no peaks: each band's lines, between lc3-codec's own edges, are searched for it here.
+//! alone is the two functions that `run` measures with. lc3-codec has neither peaks nor a loudest band: both are searched for here, in bands of lc3-codec's
+//! own edges.
 
 mod log;
 
@@ -137,11 +138,11 @@ fn measurable(number: u8, lines: &[f32], energies: &[f32], peaks: &[usize]) -> R
     }
 }
 
-/// The first of the lines `from..to` with the greatest product.
-fn peak(lines: &[f32], from: usize, to: usize) -> usize {
+/// The first of the places `from..to` with the greatest product.
+fn first_greatest(from: usize, to: usize, product: impl Fn(usize) -> f32) -> usize {
     let mut best = from;
     for k in from + 1..to {
-        if lines[k] * lines[k] > lines[best] * lines[best] {
+        if product(k) > product(best) {
             best = k;
         }
     }
@@ -151,7 +152,7 @@ fn peak(lines: &[f32], from: usize, to: usize) -> usize {
 fn find_peaks(c: &Config, lines: &[f32], peaks: &mut [usize]) {
     let edges = c.transforms.edges();
     for (b, place) in peaks.iter_mut().enumerate() {
-        *place = peak(lines, edges[b], edges[b + 1]);
+        *place = first_greatest(edges[b], edges[b + 1], |k| lines[k] * lines[k]);
     }
 }
 
@@ -239,17 +240,19 @@ fn dct(length: usize, buffer: &mut [f32]) -> Verdict {
     ACCEPTED
 }
 
-/// The first band with the greatest energy, where one is above zero.
-fn loudest(energies: &[f32]) -> (Verdict, Option<usize>) {
-    if !all_configs().any(|c| c.nb == energies.len()) {
-        return ((5, 0), None);
+/// The first band whose energy times its number of lines is greatest, and that product; none where all energies are zero.
+fn loudest(number: u8, energies: &[f32]) -> Result<Option<(usize, f32)>, Verdict> {
+    let c = config(number).ok_or((1, 0))?;
+    if energies.len() != c.nb {
+        return Err((5, 0));
     }
     if let Some(place) = first_failing(energies, passes_7) {
-        return ((7, place), None);
+        return Err((7, place));
     }
-    let greatest = energies.iter().fold(0.0, |g: f32, &e| if e > g { e } else { g });
-    let band = energies.iter().position(|&e| e == greatest);
-    (ACCEPTED, band.filter(|_| greatest > 0.0))
+    let edges = c.transforms.edges();
+    let product = |b: usize| energies[b] * (edges[b + 1] - edges[b]) as f32;
+    let band = first_greatest(0, c.nb, product);
+    Ok((energies[band] > 0.0).then(|| (band, product(band))))
 }
 
 fn spelled(x: f32) -> String {
@@ -308,10 +311,10 @@ fn answer_dct(length: usize, mut values: Vec<f32>) -> Answer {
     Answer::new(verdict, vec![floats("buffer", &values)])
 }
 
-fn answer_loudest(energies: &[f32]) -> Answer {
-    match loudest(energies) {
-        (verdict, None) => Answer::new(verdict, vec![]),
-        (verdict, Some(band)) => Answer { verdict, extra: band.to_string(), areas: vec![floats("energy", &energies[band..=band])] },
+fn answer_loudest(config: u8, energies: &[f32]) -> Answer {
+    match loudest(config, energies) {
+        Ok(Some((band, product))) => Answer { verdict: ACCEPTED, extra: band.to_string(), areas: vec![floats("energy", &[product])] },
+        told => Answer::new(told.err().unwrap_or(ACCEPTED), vec![]),
     }
 }
 
@@ -368,7 +371,7 @@ impl Bench {
             Call::Synthesise { lines, samples } => self.synthesise(&lines, samples),
             Call::Fft { size, inverse, re, im, re_out, im_out } => answer_fft(size, inverse, &re, &im, re_out, im_out),
             Call::Dct { length, values } => answer_dct(length, values),
-            Call::Loudest(energies) => answer_loudest(&energies),
+            Call::Loudest { config, energies } => answer_loudest(config, &energies),
             Call::Show => self.show(),
             Call::SetAnalysis(number, samples) => self.changed(true, |b| b.analysis = Analysis::set(number, padded(&samples, 0))),
             Call::SetSynthesis(number, memory) => self.changed(true, |b| b.synthesis = Synthesis::set(number, padded(&memory, 0.0))),

@@ -1,21 +1,21 @@
 -- How large what an operation of binary32 gives can be: a size is counted in steps of 2 ^ -149, the smallest f32 above zero. Assumes nothing.
 use mathlib.Core.Path.{_≡_, refl, sym, ap, _∙_, subst}
 use mathlib.Core.Bool.{Bool, true, false, _&&_, _||_, Bool·beq, cond, true≢false}
-use Prim.Native.Nat.{ℕ, zero, suc, _+_, _-_, _*_, _^_, _≤_, _<_, zero-le}
+use Prim.Native.Nat.{ℕ, suc, _+_, _-_, _*_, _^_, _≤_, _<_, zero-le}
 use native.Mathlib.Nat.{le-trans, le-of-eq, le-of-lt, lt-of-lt-of-le, lt-irrefl, one-mul, mul-one, zero-mul, mul-comm, mul-assoc, mul-left-comm, mul-right-comm, add-mul, mul-le-mul, mul-le-mul-left, mul-le-mul-right, mul-lt-mul-of-pos-right, le-of-mul-le-mul-right, mul-pos}
 use native.Mathlib.Omega.{arith}
 use lib.IntN.{ℤ, pos, negsuc}
 use lib.Dec.{T, leb, ltb, eqb, eqb→eq, ltb→lt, leb→le, lit<, lit≤}
 use lib.Pow.{pow-add, pow-pos, pow-mono}
-use lib.Ieee.{Float, nan, inf, fin, Format, binary32, prec, emax, low, unlike, up, down, odd, units, round, neg, sum, add, sub, mul, div, ofInt, ofBits, le}
+use lib.Ieee.{Float, nan, inf, fin, binary32, unlike, up, down, round, neg, sum, add, sub, mul, div, ofInt, ofBits, le}
 use lib.Ieee.Fits.{down-pos, and-l}
 use lib.Ieee.Exact.{HasValue, round-exact}
 use lib.Ieee.Order.{round-mono, transfer}
-use lib.Ieee.Back.{round-whole}
 use mir.Syntax.{w16}
 use mir.Val.{SFits}
 use Rattle.laws.specs.Numbers.{zero32}
-use Rattle.laws.proofs.Sign.{round-neg}
+use Rattle.laws.proofs.Sign.{round-neg, Plus, round-plus}
+use Rattle.laws.proofs.Whole.{whole-value}
 use Rattle.bounds.specs.Within.{Within}
 use Rattle.bounds.specs.Size.{Size}
 
@@ -30,29 +30,6 @@ room {k} {q} K t =
     record { few = Q; low = lt-of-lt-of-le (mul-lt-mul-of-pos-right Q (pow-pos k)) (le-trans (mul-le-mul-left (2 ^ 24) (pow-mono K)) (lit≤ tt)) }
 
 -- ---- a rounded value
--- x has the sign plus, whatever its size
-abbrev pub Plus : Float → Type 0
-Plus nan = ⊥
-Plus (inf s) = s ≡ false
-Plus (fin s m e) = s ≡ false
-
-odd-plus : (d q k l : ℕ) → Plus (odd d false q k l)
-unfolding odd
-odd-plus d zero k l = refl
-odd-plus d (suc q) k l = refl
-
-units-plus : (f : Format) (q k : ℕ) → Plus (units f false q k)
-unfolding units
-units-plus f q k = go (ltb (q * 2 ^ k) (2 ^ (low f + suc (emax f))))
-  where
-    go : (b : Bool) → Plus (cond b (odd (suc (prec f)) false q k (low f)) (inf false))
-    go true = odd-plus (suc (prec f)) q k (low f)
-    go false = refl
-
-pub round-plus : (f : Format) (a c : ℕ) → Plus (round f false a c)
-unfolding round
-round-plus f a c = units-plus f _ _
-
 within-neg : (a c : ℕ) (x : Float) → Within a c x → Within a c (neg x)
 unfolding neg
 within-neg a c nan h = h
@@ -246,8 +223,7 @@ zero-size k q = record { fact = le-trans (le-of-eq (zero-mul (2 ^ 149))) zero-le
 
 -- a width, cast to f32
 pub whole-at-least : (n : ℕ) → n ≤ 2 ^ 24 → AtLeast n (ofInt binary32 (pos n))
-unfolding ofInt
-whole-at-least n h = go (round binary32 false n 1) (round-whole binary32 false n h)
+whole-at-least n h = go (ofInt binary32 (pos n)) (whole-value n h)
   where
     go : (x : Float) → HasValue x false n 1 → AtLeast n x
     go nan h = h

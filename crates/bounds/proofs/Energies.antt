@@ -12,13 +12,14 @@ use lib.ListN.{length, getD, take, drop, length-take, length-drop}
 use lib.Ieee.{Float, nan, inf, fin, binary32, up, down, round, sum, add, mul, div, ofInt, ofBits}
 use Rattle.laws.specs.Numbers.{zero32}
 use Rattle.laws.specs.Passes.{passes7}
+use Rattle.laws.proofs.Sign.{Plus, round-plus}
 use Rattle.config.specs.Config.{valid, nf, nb, edges}
 use Rattle.config.proofs.Sound.{sound}
 use Rattle.measurement_steps.specs.Energy.{sumOf, share, energy, bandOf, energies}
 use Rattle.measurement.specs.Measurement.{energiesOf}
 use Rattle.bounds.specs.Within.{Within, Each, none, also}
 use Rattle.bounds.specs.Size.{Size}
-use Rattle.bounds.proofs.Bound.{Room, room, Plus, round-plus, plus, product, AtLeast, quotient, part-pos, more, raise, plain, sized, zero-size, whole-at-least, whole-plus}
+use Rattle.bounds.proofs.Bound.{Room, room, plus, product, AtLeast, quotient, part-pos, more, raise, plain, sized, zero-size, whole-at-least, whole-plus}
 use Rattle.bounds.proofs.Lists.{each-take, each-drop, each-tab}
 
 -- ---- the sign plus goes through squares, quotients and sums

@@ -1,4 +1,4 @@
--- The loudest band's answer, which is an enum, in a struct with C's layout: band and energy are 0 where it is quiet. Definitions only.
+-- The loudest band's answer, which is an enum, in a struct with C's layout: band and product are 0 where it is quiet. Definitions only.
 use mathlib.Core.Bool.{Bool, true, false}
 use Prim.Native.Nat.{ℕ}
 use lib.Ieee.{Float, binary32, ofBits}
@@ -9,15 +9,15 @@ use Rattle.c_api.specs.declared.LoudestHeard.{LoudestHeard}
 
 abbrev pub isLoud : Loudest → Bool
 isLoud Quiet = false
-isLoud (Loud b e) = true
+isLoud (Loud b p) = true
 
 abbrev pub bandOf : Loudest → ℕ
 bandOf Quiet = 0
-bandOf (Loud b e) = b
+bandOf (Loud b p) = b
 
-abbrev pub energyOf : Loudest → Float
-energyOf Quiet = ofBits binary32 0
-energyOf (Loud b e) = e
+abbrev pub productOf : Loudest → Float
+productOf Quiet = ofBits binary32 0
+productOf (Loud b p) = p
 
 abbrev pub loudestHeard : Heard → LoudestHeard
 loudestHeard h = record {
@@ -25,5 +25,5 @@ loudestHeard h = record {
   index = h .index;
   loud = isLoud (h .loudest);
   band = bandOf (h .loudest);
-  energy = energyOf (h .loudest);
+  product = productOf (h .loudest);
 }

@@ -17,7 +17,7 @@ pub struct LoudestHeard {
     pub index: usize,
     pub loud: bool,
     pub band: usize,
-    pub energy: f32,
+    pub product: f32,
 }
 
 // Entry. The FFT, forward or inverse.
@@ -125,12 +125,12 @@ pub extern "C" fn loamscarf_synthesis_frame_at(
     synthesis::frame_at(config, memory, lines, samples)
 }
 
-// Entry. The loudest band of some energies.
+// Entry. The loudest band of the energies of a configuration.
 #[no_mangle]
-pub extern "C" fn loamscarf_loudest_band(energies: &[f32]) -> LoudestHeard
-    ensures { λ r. ⌜ r ≡ loudestHeard (heard (now (energies .entry))) ⌝ }
+pub extern "C" fn loamscarf_loudest_band(config: u8, energies: &[f32]) -> LoudestHeard
+    ensures { λ r. ⌜ r ≡ loudestHeard (heard config (now (energies .entry))) ⌝ }
 {
-    let heard = loudest::loudest_band(energies);
+    let heard = loudest::loudest_band(config, energies);
     let loudest = heard.loudest;
     match loudest {
         Loudest::Quiet => LoudestHeard {
@@ -138,14 +138,14 @@ pub extern "C" fn loamscarf_loudest_band(energies: &[f32]) -> LoudestHeard
             index: heard.index,
             loud: false,
             band: 0,
-            energy: 0.0,
+            product: 0.0,
         },
-        Loudest::Loud(band, energy) => LoudestHeard {
+        Loudest::Loud(band, product) => LoudestHeard {
             number: heard.number,
             index: heard.index,
             loud: true,
             band,
-            energy,
+            product,
         },
     }
 }

@@ -51,9 +51,9 @@ beforePeak i = i + 7
 unfoldable pub marked : List ℕ → Bool
 marked b = eqb (getD b 0 0) 0x4c && (eqb (getD b 1 0) 0x4d && eqb (getD b 2 0) 0x43)
 
--- "replay takes the current one alone", which with the peaks is version 2
+-- "replay takes the current one alone": with the peaks, and the loudest band told the configuration, version 3
 unfoldable pub headerOf : List ℕ → Header
-headerOf b = cond (ltb (length b) 5) Short (cond (marked b) (cond (eqb (short (drop 3 b)) 2) Good Foreign) Unmarked)
+headerOf b = cond (ltb (length b) 5) Short (cond (marked b) (cond (eqb (short (drop 3 b)) 3) Good Foreign) Unmarked)
 
 -- the paper's number for each case
 abbrev pub headerNumber : Header → ℕ
@@ -63,7 +63,7 @@ headerNumber Unmarked = badMark
 headerNumber Foreign = badVersion
 
 -- ---- the calls: six fields each, kind after kind from 0 (no call) to 12; "a count or a length is 16 bits and at most 1,024"; 2 and 12 have "at the end the
--- length of the peaks' area"
+-- length of the peaks' area", 7 is "told the configuration"
 unfoldable pub rows : List Field
 rows =
     Unknown ∷ Nothing ∷ Nothing ∷ Nothing ∷ Nothing ∷ Nothing ∷
@@ -73,7 +73,7 @@ rows =
     Floats 1024 ∷ Length ∷ Nothing ∷ Nothing ∷ Nothing ∷ Nothing ∷
     Number ∷ Flag ∷ Floats 1024 ∷ Floats 1024 ∷ Length ∷ Length ∷
     Number ∷ Floats 1024 ∷ Nothing ∷ Nothing ∷ Nothing ∷ Nothing ∷
-    Floats 1024 ∷ Nothing ∷ Nothing ∷ Nothing ∷ Nothing ∷ Nothing ∷
+    Byte ∷ Floats 1024 ∷ Nothing ∷ Nothing ∷ Nothing ∷ Nothing ∷
     Nothing ∷ Nothing ∷ Nothing ∷ Nothing ∷ Nothing ∷ Nothing ∷
     Byte ∷ Samples 300 ∷ Nothing ∷ Nothing ∷ Nothing ∷ Nothing ∷
     Byte ∷ Floats 300 ∷ Nothing ∷ Nothing ∷ Nothing ∷ Nothing ∷

@@ -67,8 +67,8 @@ const ROWS: [Field; 78] = [
     Field::Nothing,
     Field::Nothing,
     // 7: loudest band
+    Field::Byte,
     Field::Floats(1024),
-    Field::Nothing,
     Field::Nothing,
     Field::Nothing,
     Field::Nothing,

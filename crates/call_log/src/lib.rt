@@ -192,7 +192,7 @@ pub fn read_header(b: &[u8]) -> Header
     if !marked(b) {
         return Header::Unmarked;
     }
-    if short(rest(b, 3)) != 2 {
+    if short(rest(b, 3)) != 3 {
         return Header::Foreign;
     }
     Header::Good

@@ -132,7 +132,7 @@ module _ {C D R : Type 0} (make : C → Answer → R) (number : D → ℕ) (chan
   pub old-is : (number d ≡ 0 → ⊥) → make old a ≡ kept e
   old-is z = (λ j. make (cond (sym (ne-eqb (number d) 0 z) j) (channel d) old) (ea j)) ∙ ap kept ed
 
--- 7: what was heard of the energies x, which are y
-pub told-is : (h : Heard) {x y : List Float} {answer : Loudest} → h ≡ heard x → x ≡ y → h .loudest ≡ answer → told h answer ≡ loudestOn y
+-- 7: what was heard at the configuration c, which is d, of the energies x, which are y
+pub told-is : (h : Heard) {c d : ℕ} {x y : List Float} {answer : Loudest} → h ≡ heard c x → c ≡ d → x ≡ y → h .loudest ≡ answer → told h answer ≡ loudestOn d y
 unfolding loudestOn
-told-is h eh ex el = ap (told h) (sym el) ∙ ap (λ (g : Heard). told g (g .loudest)) (eh ∙ ap heard ex)
+told-is h eh ec ex el = ap (told h) (sym el) ∙ ap (λ (g : Heard). told g (g .loudest)) (eh ∙ (λ j. heard (ec j) (ex j)))

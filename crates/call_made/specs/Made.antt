@@ -149,16 +149,16 @@ dct b =
     let a = dc.answer (short (drop 1 b)) (floats x) in
     one (a .judged .number) (a .judged .index) Nothing (whole area x (a .held)) (count x)
 
--- 7: the area has the energy, where it is loud
+-- 7: the area has the product, where it is loud
 abbrev pub told : Heard → Loudest → Answer
 told h Quiet = one (h .number) (h .index) Nothing area 0
-told h (Loud band energy) = one (h .number) (h .index) (Band band) (set area 0 energy) 1
+told h (Loud band product) = one (h .number) (h .index) (Band band) (set area 0 product) 1
 
-unfoldable pub loudestOn : List Float → Answer
-loudestOn x = let h = heard x in told h (h .loudest)
+unfoldable pub loudestOn : ℕ → List Float → Answer
+loudestOn c x = let h = heard c x in told h (h .loudest)
 
 abbrev pub loudest : List ℕ → Answer
-loudest b = loudestOn (floats (drop 1 b))
+loudest b = loudestOn (getD b 1 0) (floats (drop 2 b))
 
 -- 9 and 10: "at most as many as the channel's array has; the rest 0"
 abbrev pub places : List ℕ → ℕ

@@ -2,7 +2,7 @@
 ghost use mathlib.Core.Path.{_≡_};
 ghost use lib.IntN.{pos};
 ghost use lib.Ieee.{ofBits, binary32};
-ghost use lib.ListN.{length, drop, replicate};
+ghost use lib.ListN.{length, getD, drop, replicate};
 ghost use Rattle.laws.specs.Lists.{tab};
 ghost use Rattle.call_log.specs.Log.{short, Places, sampleOf, floatOf};
 ghost use Rattle.dct_iv.specs.DctIv as dc;
@@ -357,27 +357,27 @@ fn dct_on(b: &[u8], values: &mut [f32]) -> config::Verdict
     dct_iv::dct_iv(call_log::short(call_log::rest(b, 1)) as usize, values)
 }
 
-// 7: loudest band: the energies, the call. The area is its energy.
+// 7: loudest band: the energies, the call. The area is its product.
 fn loudest(b: &[u8]) -> Answer
     ensures { λ r. ⌜ r ≡ loudest (now (b .entry)) ⌝ }
 {
     let mut room = call_log::area();
-    let k = call_log::count_floats(call_log::rest(b, 1), &room);
+    let k = call_log::count_floats(call_log::rest(b, 2), &room);
     loudest_on(b, &mut room[..k])
 }
 
 fn loudest_on(b: &[u8], energies: &mut [f32]) -> Answer
-    ensures { λ r. ⌜ r ≡ loudestOn (tab (length (now (energies .entry))) (floatOf (drop 1 (now (b .entry))))) ⌝ }
-    ensures { λ r. ⌜ now (energies .exit) ≡ tab (length (now (energies .entry))) (floatOf (drop 1 (now (b .entry)))) ⌝ }
+    ensures { λ r. ⌜ r ≡ loudestOn (getD (now (b .entry)) 1 0) (tab (length (now (energies .entry))) (floatOf (drop 2 (now (b .entry))))) ⌝ }
+    ensures { λ r. ⌜ now (energies .exit) ≡ tab (length (now (energies .entry))) (floatOf (drop 2 (now (b .entry)))) ⌝ }
 {
-    call_log::floats(call_log::rest(b, 1), energies);
-    let heard = loudest::loudest_band(energies);
+    call_log::floats(call_log::rest(b, 2), energies);
+    let heard = loudest::loudest_band(call_log::byte_at(b, 1), energies);
     let found = heard.loudest;
     let mut x = call_log::area();
-    let Loudest::Loud(band, energy) = found else {
+    let Loudest::Loud(band, product) = found else {
         return one_area(heard.number, heard.index, Extra::Nothing, x, 0);
     };
-    x[0] = energy;
+    x[0] = product;
     one_area(heard.number, heard.index, Extra::Band(band), x, 1)
 }
 

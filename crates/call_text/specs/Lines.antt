@@ -59,7 +59,7 @@ buffer = 0x62 ∷ 0x75 ∷ 0x66 ∷ 0x66 ∷ 0x65 ∷ 0x72 ∷ []
 abbrev pub energy : List ℕ
 energy = 0x65 ∷ 0x6e ∷ 0x65 ∷ 0x72 ∷ 0x67 ∷ 0x79 ∷ []
 
--- "7, when loud, `energy` with its bits"
+-- "7, when loud, `energy` with its bits"; "with §2: the line `energy` has the product's bits"
 abbrev pub energyLine : List Float → List ℕ
 energyLine [] = []
 energyLine (x ∷ xs) = areaLine energy (x ∷ xs)

@@ -1,5 +1,5 @@
 -- What proofs need of a configuration: one computed test over the list of all, and a law at each. Assumes nothing.
-use mathlib.Core.Path.{_≡_}
+use mathlib.Core.Path.{_≡_, sym, subst}
 use mathlib.Core.Bool.{Bool, true, false, _&&_}
 use mathlib.Core.List.{List, [], _∷_}
 use Prim.Native.Nat.{ℕ, zero, suc, _-_, _*_, _≤_, _<_}
@@ -11,7 +11,7 @@ use lib.ListN.{getD, length}
 use lib.Ieee.Fits.{and-l, and-r}
 use Rattle.laws.proofs.Table.{at, every}
 use Rattle.config.specs.Tables.{rows, edgeRows}
-use Rattle.config.specs.Config.{largest, valid, configs, row, nf, z, ne, nb, rate, duration, upper, half, edges, among, fftSizes, dctLengths, bandCounts}
+use Rattle.config.specs.Config.{largest, valid, configs, row, nf, z, ne, nb, rate, duration, upper, half, edges, among, fftSizes, dctLengths}
 use Rattle.laws.specs.Lists.{Rising}
 use Rattle.config.specs.Sound.{AllSound}
 
@@ -61,13 +61,12 @@ good c =
     && (eqb (nf c * 1000000) (rate c * duration c)
     && (among fftSizes (half c)
     && (among dctLengths (nf c)
-    && (among bandCounts (nb c)
     && (eqb (length (edges c)) 65
     && (eqb (getD (edges c) 0 0) 0
-    && (eqb (getD (edges c) (nb c) 0) (ne c) && rise (nb c) (edges c) (ne c))))))))))))))))
+    && (eqb (getD (edges c) (nb c) 0) (ne c) && rise (nb c) (edges c) (ne c)))))))))))))))
 
 test : T (every (λ k c. good c) 0 configs)
-unfolding row rows half edges edgeRows fftSizes dctLengths bandCounts
+unfolding row rows half edges edgeRows fftSizes dctLengths
 test = tt
 
 pub sound : AllSound
@@ -85,9 +84,8 @@ sound c v =
     let t11 = and-r (eqb (nf c * 1000000) (rate c * duration c)) _ t10 in
     let t12 = and-r (among fftSizes (half c)) _ t11 in
     let t13 = and-r (among dctLengths (nf c)) _ t12 in
-    let t14 = and-r (among bandCounts (nb c)) _ t13 in
-    let t15 = and-r (eqb (length (edges c)) 65) _ t14 in
-    let t16 = and-r (eqb (getD (edges c) 0 0) 0) _ t15 in
+    let t14 = and-r (eqb (length (edges c)) 65) _ t13 in
+    let t15 = and-r (eqb (getD (edges c) 0 0) 0) _ t14 in
     record {
       even = eqb→eq (nf c) (2 * half c) (and-l (eqb (nf c) (2 * half c)) _ t1);
       half-pos = ltb→lt 0 (half c) (and-l (ltb 0 (half c)) _ t2);
@@ -101,9 +99,13 @@ sound c v =
       lasts = eqb→eq (nf c * 1000000) (rate c * duration c) (and-l (eqb (nf c * 1000000) (rate c * duration c)) _ t10);
       fft-size = and-l (among fftSizes (half c)) _ t11;
       dct-length = and-l (among dctLengths (nf c)) _ t12;
-      band-count = and-l (among bandCounts (nb c)) _ t13;
-      edges-65 = eqb→eq (length (edges c)) 65 (and-l (eqb (length (edges c)) 65) _ t14);
-      edges-from = eqb→eq (getD (edges c) 0 0) 0 (and-l (eqb (getD (edges c) 0 0) 0) _ t15);
-      edges-to = eqb→eq (getD (edges c) (nb c) 0) (ne c) (and-l (eqb (getD (edges c) (nb c) 0) (ne c)) _ t16);
-      rising = rises (nb c) (edges c) (ne c) (and-r (eqb (getD (edges c) (nb c) 0) (ne c)) _ t16);
+      edges-65 = eqb→eq (length (edges c)) 65 (and-l (eqb (length (edges c)) 65) _ t13);
+      edges-from = eqb→eq (getD (edges c) 0 0) 0 (and-l (eqb (getD (edges c) 0 0) 0) _ t14);
+      edges-to = eqb→eq (getD (edges c) (nb c) 0) (ne c) (and-l (eqb (getD (edges c) (nb c) 0) (ne c)) _ t15);
+      rising = rises (nb c) (edges c) (ne c) (and-r (eqb (getD (edges c) (nb c) 0) (ne c)) _ t15);
     }
+
+-- the edges that code has at hand: the bands end before any m that is no less than the number of coded lines
+pub edges-rise : (c n m : ℕ) (es : List ℕ) → T (valid c) → n ≡ nb c → ne c ≤ m → es ≡ edges c → Rising n es m
+edges-rise c n m es v p q e =
+    subst (λ (l : List ℕ). Rising n l m) (sym e) (λ b h. let r = sound c v .rising b (omega arith) in (omega arith, omega arith))

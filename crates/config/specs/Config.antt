@@ -72,7 +72,3 @@ fftSizes = map half configs
 
 unfoldable pub dctLengths : List ℕ
 dctLengths = map nf configs
-
--- "energies of another length than nb (loudest band, which isn't told the configuration: than 60 or 64)"; "5 at the loudest band every nb" (document 02 §1)
-unfoldable pub bandCounts : List ℕ
-bandCounts = map nb configs

@@ -24,8 +24,8 @@ badInput = 3
 abbrev pub badOutput : ℕ
 badOutput = 4
 
--- "energies of another length than nb (loudest band, which isn't told the configuration: than 60 or 64)"; "5 at the loudest band every nb" (document 02 §1);
--- "the peaks' length is tested by 5, after the energies" (document 02 §12)
+-- "energies of another length than nb"; at the loudest band "now for exactly nb" (document 02 §2); "the peaks' length is tested by 5, after the energies"
+-- (document 02 §12)
 abbrev pub badEnergies : ℕ
 badEnergies = 5
 

@@ -1,11 +1,10 @@
 -- What is promised of each configuration, and what the proofs above need of it. Definitions only.
 use mathlib.Core.Path.{_≡_}
-use mathlib.Core.List.{List}
-use Prim.Native.Nat.{ℕ, _+_, _-_, _*_, _≤_, _<_}
+use Prim.Native.Nat.{ℕ, _-_, _*_, _≤_, _<_}
 use lib.Dec.{T}
 use lib.ListN.{getD, length}
 use Rattle.laws.specs.Lists.{Rising}
-use Rattle.config.specs.Config.{valid, nf, z, ne, nb, rate, duration, upper, half, edges, among, fftSizes, dctLengths, bandCounts}
+use Rattle.config.specs.Config.{valid, nf, z, ne, nb, rate, duration, upper, half, edges, among, fftSizes, dctLengths}
 
 pub record Sound (c : ℕ) : Type 0 where
   -- a frame has twice as many samples as the FFT has points
@@ -32,8 +31,6 @@ pub record Sound (c : ℕ) : Type 0 where
   pub fft-size : T (among fftSizes (half c))
   -- the DCT accepts its length
   pub dct-length : T (among dctLengths (nf c))
-  -- the loudest band accepts its number of energies
-  pub band-count : T (among bandCounts (nb c))
   -- the edges stand in 65 places
   pub edges-65 : length (edges c) ≡ 65
   -- the first band begins at line 0

@@ -2,7 +2,7 @@
 // Ported from src/common/config.rs and src/tables/band_index_tables.rs of lc3-codec 0.2.0, and changed: a configuration is a number, 44.1 kHz
 // stays behind, frames of 5 and 2.5 ms are LC3plus's as liblc3 has them, the row has the number of upper bands too, and every function is total.
 ghost use mathlib.Core.Path.{_≡_};
-ghost use Rattle.config.specs.Config.{valid, nf, z, ne, nb, rate, duration, upper, half, among, fftSizes, dctLengths, bandCounts};
+ghost use Rattle.config.specs.Config.{valid, nf, z, ne, nb, rate, duration, upper, half, among, fftSizes, dctLengths};
 
 mod tables; // tables.rt: the rows and the edges
 
@@ -117,11 +117,4 @@ pub fn is_dct_length(n: usize) -> bool
     ensures { λ r. ⌜ r ≡ among dctLengths n ⌝ }
 {
     has(&tables::DCT_LENGTHS, n)
-}
-
-// Entry. Whether a configuration has n bands.
-pub fn is_band_count(n: usize) -> bool
-    ensures { λ r. ⌜ r ≡ among bandCounts n ⌝ }
-{
-    has(&tables::BAND_COUNTS, n)
 }

@@ -49,29 +49,6 @@ pub const DCT_LENGTHS: [usize; 20] = [
     120, // DCT length of 19
 ];
 
-pub const BAND_COUNTS: [usize; 20] = [
-    60, // bands of 0
-    64, // bands of 1
-    64, // bands of 2
-    64, // bands of 3
-    64, // bands of 4
-    64, // bands of 5
-    64, // bands of 6
-    64, // bands of 7
-    64, // bands of 8
-    64, // bands of 9
-    39, // bands of 10
-    50, // bands of 11
-    52, // bands of 12
-    54, // bands of 13
-    55, // bands of 14
-    20, // bands of 15
-    35, // bands of 16
-    40, // bands of 17
-    43, // bands of 18
-    44, // bands of 19
-];
-
 // The row of a configuration, and zeros for a number that is none.
 pub fn row(c: u8) -> Lc3Config
     ensures { λ r. ⌜ (r .fs ≡ rate c) × (r .ne ≡ ne c) × (r .duration ≡ duration c) × (r .nb ≡ nb c) × (r .nf ≡ nf c) × (r .z ≡ z c) × (r .upper ≡ upper c) ⌝ }

@@ -4,6 +4,7 @@ pub mod Arms
 pub mod Passes
 pub mod Sign
 pub mod Order
+pub mod Whole
 pub mod Parts
 pub mod Bools
 pub mod Greatest

@@ -1,14 +1,15 @@
 -- The order of values that are not NaN and not below zero, -0.0 and the infinity among them. Assumes nothing.
 use mathlib.Core.Path.{_≡_, refl, sym, ap, _∙_, subst}
 use mathlib.Core.Bool.{Bool, true, false, not, true≢false}
-use Prim.Native.Nat.{ℕ, zero, _+_, _*_, _≤_, _<_}
+use Prim.Native.Nat.{ℕ, _+_, _*_, _≤_, _<_}
 use native.Mathlib.Nat.{le-refl, le-of-eq, lt-of-lt-of-le, lt-of-le-of-lt, zero-mul, zero-add, mul-right-comm, mul-le-mul-right, mul-lt-mul-of-pos-right, lt-of-mul-lt-mul-right, not-le-of-lt}
 use native.Mathlib.Omega.{arith}
 use lib.IntN.{ℤ}
-use lib.Dec.{T, ltb, eqb, eqb→eq, ltb→lt, lt→ltb, nltb→le, leb·suc-zero}
+use lib.Dec.{T, ltb, eqb→eq, ltb→lt, lt→ltb, nltb→le, leb·suc-zero}
 use lib.Ieee.{Float, nan, inf, fin, up, down, lt}
 use lib.Ieee.Fits.{down-pos}
-use Rattle.laws.specs.Passes.{ranked, passes7}
+use Rattle.laws.specs.Passes.{ranked}
+use Rattle.laws.proofs.Sign.{Plus}
 
 is-false : (b : Bool) → (T b → ⊥) → b ≡ false
 is-false true h = absurd (h tt)
@@ -91,9 +92,10 @@ same-not x p = is-false (lt x x) (λ (h : T (lt x x)). true≢false (is-true (lt
     is-true true t = refl
     is-true false t = absurd t
 
--- what passes 7 can be ranked
-pub ranked-7 : (x : Float) → T (passes7 x) → T (ranked x)
-unfolding passes7
-ranked-7 nan t = t
-ranked-7 (inf s) t = absurd t
-ranked-7 (fin s m e) t = t
+-- what has the sign plus can be ranked
+pub plus-ranked : (x : Float) → Plus x → T (ranked x)
+plus-ranked nan p = p
+plus-ranked (inf true) p = absurd (true≢false p)
+plus-ranked (inf false) p = tt
+plus-ranked (fin true m e) p = absurd (true≢false p)
+plus-ranked (fin false m e) p = tt

@@ -1,4 +1,4 @@
--- Rounding's symmetry in the sign: a product's sign goes through, bit for bit. And what a NaN does to the operations, and to a list read past its end. Assumes nothing.
+-- Rounding keeps the sign, and is symmetric in it: a product's sign goes through, bit for bit. And what a NaN does to the operations, and to a list read past its end. Assumes nothing.
 use Prim.Native.Nat.{ℕ, zero, suc, _+_, _*_, _^_}
 use mathlib.Core.Path.{_≡_, refl, sym, ap, _∙_}
 use mathlib.Core.Bool.{Bool, true, false, not, cond}
@@ -24,6 +24,29 @@ units-neg f q k = go (ltb (q * 2 ^ k) (2 ^ (low f + suc (emax f))))
 pub round-neg : (f : Format) (a c : ℕ) → round f true a c ≡ neg (round f false a c)
 unfolding round
 round-neg f a c = units-neg f _ _
+
+-- x has the sign plus, whatever its size
+abbrev pub Plus : Float → Type 0
+Plus nan = ⊥
+Plus (inf s) = s ≡ false
+Plus (fin s m e) = s ≡ false
+
+odd-plus : (d q k l : ℕ) → Plus (odd d false q k l)
+unfolding odd
+odd-plus d zero k l = refl
+odd-plus d (suc q) k l = refl
+
+units-plus : (f : Format) (q k : ℕ) → Plus (units f false q k)
+unfolding units
+units-plus f q k = go (ltb (q * 2 ^ k) (2 ^ (low f + suc (emax f))))
+  where
+    go : (b : Bool) → Plus (cond b (odd (suc (prec f)) false q k (low f)) (inf false))
+    go true = odd-plus (suc (prec f)) q k (low f)
+    go false = refl
+
+pub round-plus : (f : Format) (a c : ℕ) → Plus (round f false a c)
+unfolding round
+round-plus f a c = units-plus f _ _
 
 pub neg-neg : (x : Float) → neg (neg x) ≡ x
 unfolding neg

@@ -1,4 +1,4 @@
--- The first with the greatest, of any values that can be ranked: energies of bands, products of lines. Definitions only.
+-- The first with the greatest, of any values that can be ranked: products of bands, products of lines. Definitions only.
 use Prim.Native.Nat.{ℕ, zero, suc, _<_}
 use mathlib.Core.Path.{_≡_}
 use mathlib.Core.Bool.{false, cond}

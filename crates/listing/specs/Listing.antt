@@ -29,9 +29,9 @@ framed ch x = frames ch (lent x (zeros (nf (ch .config))))
 abbrev pub measured : Channel → List ℤ → ms.Given
 measured ch x = ms.measures (ch .config) (ms.lent (framed ch x .0 .lines) (zeros (nb (ch .config))) (replicate (nb (ch .config)) 0))
 
--- the flag, the loudest band and the new channel; where the loudest band is refused the answer beside the refusal is quiet
+-- the flag, the loudest band at that configuration and the new channel; where the loudest band is refused the answer beside the refusal is quiet
 unfoldable pub listened : Channel → List ℤ → Listened
-listened ch x = record { flag = measured ch x .flag; loudest = heard (measured ch x .energies) .loudest; channel = framed ch x .1 }
+listened ch x = record { flag = measured ch x .flag; loudest = heard (ch .config) (measured ch x .energies) .loudest; channel = framed ch x .1 }
 
 -- the line of frame number n
 abbrev pub lineOf : ℕ → Listened → List ℕ

@@ -17,7 +17,7 @@ digit flag = cond flag 0x31 0x30
 
 -- "loudest band, which is named only when a loudest band exists, else `-`"
 abbrev pub band : Loudest → List ℕ
-band (Loud b energy) = decimal b
+band (Loud b product) = decimal b
 band Quiet = 0x2d ∷ []
 
 -- "per frame its number, flag (0 or 1) and loudest band"

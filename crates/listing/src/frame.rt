@@ -58,7 +58,7 @@ fn listen_in(
     let config = channel.config;
     let framed = channel.frame(input, lines);
     let measured = measurement::measure(config, lines, energies, peaks);
-    let heard = loudest::loudest_band(energies);
+    let heard = loudest::loudest_band(config, energies);
     let loudest = heard.loudest;
     let next = framed.channel;
     Listened {

@@ -1,5 +1,5 @@
 -- What the callees ensure, put together, is the definition of the measurement. Assumes nothing.
-use mathlib.Core.Path.{_≡_, sym, ap, ap₂, subst, _∙_}
+use mathlib.Core.Path.{_≡_, sym, ap, ap₂, _∙_}
 use mathlib.Core.Bool.{Bool, false}
 use mathlib.Core.List.{List}
 use Prim.Native.Nat.{ℕ, _+_, _-_, _≤_, _<_}
@@ -9,7 +9,7 @@ use lib.Dec.{T}
 use lib.ListN.{length, getD, take, drop}
 use lib.Ieee.{Float}
 use borrow.Author.Tests.{le-leb, lt-leb}
-use Rattle.laws.specs.Lists.{tab, Rising}
+use Rattle.laws.specs.Lists.{tab}
 use Rattle.laws.proofs.Lists.{tab-ext}
 use Rattle.config.specs.Config.{valid, nf, nb, rate, upper, edges}
 use Rattle.config.proofs.Sound.{sound}
@@ -17,12 +17,6 @@ use Rattle.measurement_steps.specs.Energy.{energy, energies, exceeds}
 use Rattle.measurement_steps.specs.Peak.{peaks}
 use Rattle.measurement_steps.proofs.Bands.{spaced, lone-energy, lone-place}
 use Rattle.measurement.specs.Measurement.{energiesOf, peaksOf, flagOf}
-
--- the edges that the code has at hand
-pub edges-rise : (c n m : ℕ) (es : List ℕ) → T (valid c) → n ≡ nb c → m ≡ nf c → es ≡ edges c → Rising n es m
-edges-rise c n m es v p q e =
-    let s = sound c v in
-    subst (λ (l : List ℕ). Rising n l m) (sym e) (λ b h. let r = s .rising b (omega arith) in (omega arith, omega arith))
 
 -- what is made by the edges at hand is made by the configuration's
 pub by-edges : {A : Type 0} (f : ℕ → List ℕ → A) (c : ℕ) {n : ℕ} {es : List ℕ} {out : A} → n ≡ nb c → es ≡ edges c → out ≡ f n es → out ≡ f (nb c) (edges c)

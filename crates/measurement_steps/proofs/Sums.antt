@@ -4,13 +4,10 @@ use mathlib.Core.List.{List, [], _∷_, _++_}
 use Prim.Native.Nat.{ℕ, _+_, _≤_, _<_}
 use native.Mathlib.Nat.{add-zero}
 use native.Mathlib.Omega.{arith}
-use lib.Dec.{T}
 use lib.IntN.{pos}
 use lib.ListN.{length, getD, take, drop, length-drop}
 use lib.Seq.{take-add, take-length, getD-drop}
-use lib.Ieee.{Float, nan, binary32, add, mul, div, ofInt, inFloat}
-use denote.Floats.{passes}
-use borrow.Author.Tests.{le-leb}
+use lib.Ieee.{Float, nan, binary32, add, ofInt}
 use Rattle.laws.specs.Lists.{tab}
 use Rattle.laws.specs.Numbers.{zero32}
 use Rattle.laws.proofs.Lists.{tab-ext, take-tab}
@@ -49,8 +46,3 @@ summed-all f acc xs i s h e = h ∙ ap (λ (k : ℕ). sumOf f acc (take k xs)) e
 pub is-energy : (ls : List Float) (n : ℕ) (w s : Float) → s ≡ sumOf (shareBy w) zero32 ls → length ls ≡ n → w ≡ ofInt binary32 (pos n) → s ≡ energy ls
 unfolding energy share
 is-energy ls n w s h e v = h ∙ ap (λ (x : Float). sumOf (shareBy x) zero32 ls) (v ∙ ap (λ (k : ℕ). ofInt binary32 (pos k)) (sym e))
-
--- a width is a number of the format
-pub width-fits : (n : ℕ) → n ≤ 480 → T (inFloat binary32 (pos n))
-unfolding inFloat
-width-fits n h = passes _ (le-leb n 16777216 (omega arith))

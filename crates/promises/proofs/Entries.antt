@@ -86,7 +86,6 @@ entries w =
       edges = (λ κs a. free w, λ κs a g x y. returns w x y refl);
       is-fft-size = (λ κs a. free w, λ κs a g x y. returns w x y refl);
       is-dct-length = (λ κs a. free w, λ κs a g x y. returns w x y refl);
-      is-band-count = (λ κs a. free w, λ κs a g x y. returns w x y refl);
       w-n60-7p5ms = (λ κs a. free w, λ κs a g x y. returns w x y refl);
       w-n120-7p5ms = (λ κs a. free w, λ κs a g x y. returns w x y refl);
       w-n180-7p5ms = (λ κs a. free w, λ κs a g x y. returns w x y refl);

@@ -1,18 +1,18 @@
 -- P, each row by computation but `p12-any`. Assumes nothing.
-use Prim.Native.Nat.{ℕ, _<_}
+use Prim.Native.Nat.{ℕ}
 use mathlib.Core.Path.{_≡_, refl, sym, ap, subst, _∙_}
-use mathlib.Core.Bool.{Bool, true, false, cond}
+use mathlib.Core.Bool.{Bool, true, false, not, cond}
 use mathlib.Core.Option.{some, Option·none-ne-some, Option·some-injective}
 use mathlib.Core.List.{List, zipWith}
-use lib.Dec.{eqb}
+use lib.Dec.{T, eqb}
 use lib.ListN.{length, getD}
 use lib.Ieee.{Float, ofBits, ofInt, round, units, odd, neg, add, sub, mul, lt, nan}
 use borrow.Author.Tests.{eqb-true}
 use Rattle.laws.specs.Lists.{tab, first}
 use Rattle.laws.specs.Passes.{passes6, passes7}
-use Rattle.config.specs.Config.{among, bandCounts, row}
-use Rattle.config.specs.Tables.{rows}
-use Rattle.config.specs.Refusals.{badEnergies, badEnergy}
+use Rattle.config.specs.Config.{valid, nb, row, edges}
+use Rattle.config.specs.Tables.{rows, edgeRows}
+use Rattle.config.specs.Refusals.{badConfig, badEnergies, badEnergy}
 use Rattle.kf_work.specs.Work.{plan}
 use Rattle.analysis_steps.specs.Buffer.{pastOf, bufferStep}
 use Rattle.analysis_steps.specs.Fold.{weighed, foldLow, foldHigh, folded}
@@ -21,39 +21,40 @@ use Rattle.measurement.specs.Measurement.{flagOf}
 use Rattle.synthesis_steps.specs.Places.{mirrored, unfolded, output, remains}
 use Rattle.loudest.specs.declared.Loudest.the-variants.{Quiet}
 use Rattle.laws.specs.Greatest.{First, best}
-use Rattle.laws.proofs.Greatest.{best-first}
-use Rattle.loudest.specs.Loudest.{heard, told, refusal, loudest, loud, silent, paper}
-use Rattle.loudest.proofs.Counts.{some as some-bands}
-use Rattle.loudest.proofs.Rank.{ranked-all}
+use Rattle.loudest.specs.Loudest.{products, heard, told, refusal, loudest, loud, silent, paper}
+use Rattle.loudest.proofs.Rank.{lent, scanned, some as some-bands}
 use Rattle.promises.specs.Facts.{Facts}
 
 -- the band told is the scan's
-p12-any : (l : List Float) (b : ℕ) (e : Float) → paper (heard l) .values ≡ some (b, e) → First l b × (e ≡ getD l b nan)
+p12-any : (c : ℕ) (l : List Float) (b : ℕ) (p : Float) → paper (heard c l) .values ≡ some (b, p) → First (products (edges c) l) b × (p ≡ getD (products (edges c) l) b nan)
 unfolding heard loudest
-p12-any l b e = go (among bandCounts (length l)) (eqb (first passes7 l) (length l)) (eqb (first silent l) (length l)) refl refl
+p12-any c l b p = go (valid c) (eqb (length l) (nb c)) (eqb (first passes7 l) (length l)) (eqb (first silent l) (length l)) (λ v. v) refl refl
   where
-    scanned : ℕ
-    scanned = best l (length l)
+    ps : List Float
+    ps = products (edges c) l
 
-    same : _≡_ {A = ℕ × Float} (scanned, getD l scanned nan) (b, e) → First l scanned → First l b × (e ≡ getD l b nan)
+    at : ℕ
+    at = best ps (length l)
+
+    same : _≡_ {A = ℕ × Float} (at, getD ps at nan) (b, p) → First ps at → First ps b × (p ≡ getD ps b nan)
     same q f =
-        let i : scanned ≡ b = ap (λ (x : ℕ × Float). x .0) q in
-        (subst (First l) i f, sym (ap (λ (x : ℕ × Float). x .1) q) ∙ ap (λ (k : ℕ). getD l k nan) i)
+        let i : at ≡ b = ap (λ (x : ℕ × Float). x .0) q in
+        (subst (First ps) i f, sym (ap (λ (x : ℕ × Float). x .1) q) ∙ ap (λ (k : ℕ). getD ps k nan) i)
 
-    go : (p q r : Bool) → among bandCounts (length l) ≡ p → eqb (first passes7 l) (length l) ≡ q
-        → paper (cond p (cond q (told (cond r Quiet (loud l scanned))) (refusal badEnergy (first passes7 l))) (refusal badEnergies 0)) .values ≡ some (b, e)
-        → First l b × (e ≡ getD l b nan)
-    go true true true s t h = absurd (Option·none-ne-some (b, e) h)
-    go true true false s t h =
-        let all : first passes7 l ≡ length l = eqb-true _ _ t in
-        let n : 0 < length l = some-bands (length l) s in
-        same (Option·some-injective (scanned, getD l scanned nan) (b, e) h) (best-first l (ranked-all l n all) n)
-    go true false r s t h = absurd (Option·none-ne-some (b, e) h)
-    go false q r s t h = absurd (Option·none-ne-some (b, e) h)
+    go : (v n q r : Bool) → (T v → T (valid c)) → eqb (length l) (nb c) ≡ n → eqb (first passes7 l) (length l) ≡ q
+        → paper (cond (not v) (refusal badConfig 0) (cond (not n) (refusal badEnergies 0) (cond q (told (cond r Quiet (loud ps at))) (refusal badEnergy (first passes7 l))))) .values ≡ some (b, p)
+        → First ps b × (p ≡ getD ps b nan)
+    go false n q r s t u h = absurd (Option·none-ne-some (b, p) h)
+    go true false q r s t u h = absurd (Option·none-ne-some (b, p) h)
+    go true true false r s t u h = absurd (Option·none-ne-some (b, p) h)
+    go true true true true s t u h = absurd (Option·none-ne-some (b, p) h)
+    go true true true false s t u h =
+        let n : length l ≡ nb c = eqb-true _ _ t in
+        same (Option·some-injective (at, getD ps at nan) (b, p) h) (scanned (edges c) l (lent c l (edges c) (s tt) n refl .1) (eqb-true _ _ u) (some-bands c l (edges c) (s tt) n refl))
 
 -- THE STATEMENT
 pub P : Facts
-unfolding plan tab folded foldLow foldHigh weighed bufferStep pastOf flagOf exceeds total row rows unfolded mirrored output remains zipWith ofBits ofInt round units odd neg add sub mul lt passes6 passes7 first heard loudest best silent bandCounts
+unfolding plan tab folded foldLow foldHigh weighed bufferStep pastOf flagOf exceeds total row rows unfolded mirrored output remains zipWith ofBits ofInt round units odd neg add sub mul lt passes6 passes7 first heard loudest products best silent edges edgeRows
 P =
     record {
       p1 = refl;
@@ -73,5 +74,7 @@ P =
       p11-refused = refl;
       p11-index = refl;
       p12 = refl;
+      p12-mean = refl;
+      p12-broad = refl;
       p12-any = p12-any;
     }

@@ -4,6 +4,7 @@ pub mod AnalysisLaw
 pub mod SynthesisLaw
 pub mod Kept
 pub mod Facts
+pub mod Loudest
 pub mod Entries
 pub mod Flags
 pub mod Papers

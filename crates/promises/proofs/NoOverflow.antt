@@ -16,9 +16,8 @@ use Rattle.laws.specs.Lists.{first}
 use Rattle.laws.specs.Numbers.{zero32}
 use Rattle.laws.specs.Passes.{passes6, passes7}
 use Rattle.laws.proofs.Lists.{length-tab, first-none}
-use Rattle.config.specs.Config.{valid, nf, z, ne, nb, among, bandCounts}
+use Rattle.config.specs.Config.{valid, nf, z, ne, nb}
 use Rattle.config.specs.declared.Verdict.{Verdict}
-use Rattle.config.proofs.Sound.{sound}
 use Rattle.analysis_steps.specs.Buffer.{pastOf, bufferStep, bufferOf}
 use Rattle.measurement_steps.specs.Energy.{energies}
 use Rattle.analysis_lines.specs.Lines.{timeBuffer, linesOf}
@@ -115,13 +114,12 @@ unfolding linesOf
 energies-each a v s x i = energies-bound 30 (lit≤ tt) (a .config) v _ (length-mdct (a .config) v (timeBuffer (a .config) (held a) x)) (lines-each a v s x i)
 
 -- the loudest band takes them: as many as the configuration has bands, and all pass 7
-hears : (c : ℕ) → T (valid c) → (l : List Float) → Each (λ x. T (passes7 x)) (energiesOf c l) → paper (heard (energiesOf c l)) .number ≡ 0
+hears : (c : ℕ) → T (valid c) → (l : List Float) → Each (λ x. T (passes7 x)) (energiesOf c l) → paper (heard c (energiesOf c l)) .number ≡ 0
 unfolding heard energiesOf energies
 hears c v l a =
     let n : length (energiesOf c l) ≡ nb c = length-tab (nb c) _ in
     let all = first-none passes7 (energiesOf c l) nan (λ k h. is-true (passes7 (getD (energiesOf c l) k nan)) (each-at nan k a h)) in
-    let some : among bandCounts (length (energiesOf c l)) ≡ true = is-true _ (subst (λ (m : ℕ). T (among bandCounts m)) (sym n) (sound c v .band-count)) in
-    rw (some, eq-eqb (first passes7 (energiesOf c l)) (length (energiesOf c l)) (sym all))
+    rw (is-true (valid c) v, eq-eqb (length (energiesOf c l)) (nb c) n, eq-eqb (first passes7 (energiesOf c l)) (length (energiesOf c l)) (sym all))
 
 hears-each : Taken Hears
 hears-each a v s x i = hears (a .config) v (linesOf (a .config) (held a) x) (each-weaken (λ x h. h .0) (energies-each a v s x i))
@@ -189,7 +187,7 @@ along (x ∷ xs) a v s (within.also w ws) =
     (within.also
     (ap (λ (g : measurement.Given). g .number) m)
     (within.also
-    (subst (λ (g : measurement.Given). paper (heard (g .energies)) .number ≡ 0) (sym m) (hears-each a v s x (w .1)))
+    (subst (λ (g : measurement.Given). paper (heard (a .config) (g .energies)) .number ≡ 0) (sym m) (hears-each a v s x (w .1)))
     (subst (λ (r : Given × Channel). Each (λ n. n ≡ 0) (numbers (r .1) xs)) (sym t) rest)))
 
 along-file : (c : ℕ) → T (valid c) → (f : List ℕ) → Each (λ n. n ≡ 0) (numbers (cleared c .channel) (contents c f .frames))

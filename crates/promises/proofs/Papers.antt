@@ -15,7 +15,7 @@ use Rattle.laws.specs.Lists.{first}
 use Rattle.laws.specs.Passes.{passes7}
 use Rattle.laws.proofs.Bools.{outcomes}
 use Rattle.laws.proofs.Lists.{first-none}
-use Rattle.config.specs.Config.{largest, nf}
+use Rattle.config.specs.Config.{largest, nf, nb}
 use Rattle.config.proofs.Sound.{sound}
 use Rattle.loudest.specs.Loudest.{silent, loudest, heard}
 use Rattle.frame_file.specs.File.{lmf, byte, short, marked, headerOf, recordOf}
@@ -79,15 +79,17 @@ pub papers : Papers
 unfolding heard loudest headerOf recordOf log.headerOf log.callTaken log.fields log.fieldTaken log.fieldOf log.rows
 papers =
     record {
-      bad-energies = λ l h. rw h;
-      bad-energy = λ l h i. rw (h, ne-eqb (first passes7 l) (length l) (λ e. omega arith));
-      quiet = λ l h z.
+      no-config = λ c l v. rw (lt-leb c largest v);
+      bad-energies = λ c l v n. rw (le-leb c largest v, ne-eqb (length l) (nb c) n);
+      bad-energy = λ c l v n i. rw (le-leb c largest v, eq-eqb (length l) (nb c) n, ne-eqb (first passes7 l) (length l) (λ e. omega arith));
+      quiet = λ c l v n z.
           rw (
-            h,
+            le-leb c largest v,
+            eq-eqb (length l) (nb c) n,
             eq-eqb (first passes7 l) (length l) (sym (first-none passes7 l nan (λ k i. zero-passes (getD l k nan) (z k i)))),
             eq-eqb (first silent l) (length l) (sym (first-none silent l nan z)),
           );
-      loud = λ l h p z. rw (h, eq-eqb (first passes7 l) (length l) p, ne-eqb (first silent l) (length l) (λ e. omega arith));
+      loud = λ c l v n p z. rw (le-leb c largest v, eq-eqb (length l) (nb c) n, eq-eqb (first passes7 l) (length l) p, ne-eqb (first silent l) (length l) (λ e. omega arith));
       short-file = λ f h. rw (lt-ltb (length f) 6 h);
       bad-mark = λ f h n. rw (le-ltb (length f) 6 h, lmf-not f h n);
       bad-version = λ f h e n. rw (le-ltb (length f) 6 h, lmf-is f e, ne-eqb (short f 3) 1 n);
@@ -101,8 +103,8 @@ papers =
       astray = λ c f v. rw (lt-leb c largest v);
       short-log = λ b h. rw (lt-ltb (length b) 5 h);
       bad-log-mark = λ b h n. rw (le-ltb (length b) 5 h, lmc-not b h n);
-      bad-log-version = λ b h e n. rw (le-ltb (length b) 5 h, lmc-is b e, version b, ne-eqb (short b 3) 2 n);
-      good-log = λ b h e v. rw (le-ltb (length b) 5 h, lmc-is b e, version b, eq-eqb (short b 3) 2 v);
+      bad-log-version = λ b h e n. rw (le-ltb (length b) 5 h, lmc-is b e, version b, ne-eqb (short b 3) 3 n);
+      good-log = λ b h e v. rw (le-ltb (length b) 5 h, lmc-is b e, version b, eq-eqb (short b 3) 3 v);
       whole-call = λ c b. rw (le-leb 1 (length (c ∷ b)) (omega arith));
       cut-call = refl;
     }

@@ -6,7 +6,7 @@ use mathlib.Core.Bool.{Bool, true, false, not, cond, true≢false}
 use mathlib.Core.List.{List}
 use lib.Dec.{T, eqb, ltb}
 use lib.ListN.{length, getD}
-use lib.Ieee.{Float, nan, inf, fin, ofBits, ofFields, odd, units, round, mul, lt}
+use lib.Ieee.{Float, nan, ofBits, ofFields, odd, units, round, mul, lt}
 use lib.Count.{trailingZeros}
 use lib.Ieee.Bits.{is-true}
 use borrow.Author.Tests.{eq-eqb, ne-eqb, ltb-false}
@@ -14,6 +14,7 @@ use Rattle.laws.specs.Lists.{tab, first}
 use Rattle.laws.specs.Passes.{passes6, ranked}
 use Rattle.laws.specs.Greatest.{First, best}
 use Rattle.laws.proofs.Lists.{length-tab, getD-tab, length-map, getD-map}
+use Rattle.laws.proofs.Order.{plus-ranked}
 use Rattle.laws.proofs.Greatest.{best-first, best-most, alone}
 use Rattle.config.specs.Tables.{rows, edgeRows}
 use Rattle.config.specs.Config.{valid, row, nf, nb, edges}
@@ -26,20 +27,13 @@ use Rattle.measurement.specs.Measurement.{Lent, peaksOf, refusedBy, measures}
 use Rattle.measurement.proofs.Verdicts as verdicts
 use Rattle.measurement.proofs.Verdicts.{tells, by-number}
 use Rattle.loudest.proofs.Rank.{first-le, first-all}
-use Rattle.bounds.proofs.Bound.{Plus, sized}
+use Rattle.bounds.proofs.Bound.{sized}
 use Rattle.bounds.proofs.Energies.{square-plus}
 use Rattle.bounds.proofs.Samples.{six-within}
 use Rattle.promises.specs.Bare as bare
 use Rattle.promises.specs.Peaks.{product, InBand, Peak, unpeaked, without, tested, Peaks}
 
 -- ---- products of lines that pass 6 can be ranked
-plus-ranked : (x : Float) → Plus x → T (ranked x)
-plus-ranked nan p = p
-plus-ranked (inf true) p = absurd (true≢false p)
-plus-ranked (inf false) p = tt
-plus-ranked (fin true m e) p = absurd (true≢false p)
-plus-ranked (fin false m e) p = tt
-
 square-ranked : (x : Float) → T (passes6 x) → T (ranked (square x))
 square-ranked x h = plus-ranked (square x) (square-plus x (sized 60 x (six-within x h)))
 

@@ -36,7 +36,6 @@ use Rattle.config.proofs.half
 use Rattle.config.proofs.edges
 use Rattle.config.proofs.is_fft_size
 use Rattle.config.proofs.is_dct_length
-use Rattle.config.proofs.is_band_count
 use Rattle.windows.proofs.w_n60_7p5ms
 use Rattle.windows.proofs.w_n120_7p5ms
 use Rattle.windows.proofs.w_n180_7p5ms
@@ -214,7 +213,6 @@ pub record Entries (w : World) : Type 1 where
   pub edges : Entry w edges.ended edges.clauses
   pub is-fft-size : Entry w is_fft_size.ended is_fft_size.clauses
   pub is-dct-length : Entry w is_dct_length.ended is_dct_length.clauses
-  pub is-band-count : Entry w is_band_count.ended is_band_count.clauses
   -- windows
   pub w-n60-7p5ms : Entry w w_n60_7p5ms.ended w_n60_7p5ms.clauses
   pub w-n120-7p5ms : Entry w w_n120_7p5ms.ended w_n120_7p5ms.clauses
@@ -370,7 +368,7 @@ pub record Cited (w : World) : Type 2 where
       (λ κs a x. synthesis.frames (synthesis.channelOf (a .0) (now (a .1 .0))) (synthesis.lent (now (a .1 .1 .0)) (now (a .1 .1 .1 .0)))
       ≡ synthesis.outcomeAt (a .0) (x .0) (x .1 .1 .0) (x .1 .1 .1 .1 .0))
   -- loudest: `loudest_band` gives `heard`
-  pub loudest-band : Says w loudest_band.ended loudest_band.clauses (λ κs a x. x .0 ≡ heard (now (a .0)))
+  pub loudest-band : Says w loudest_band.ended loudest_band.clauses (λ κs a x. x .0 ≡ heard (a .0) (now (a .1 .0)))
   -- listing: `open` gives `opening`, `step` gives `step`
   pub opened : Says w open.ended open.clauses (λ κs a x. x .0 ≡ steps.opening (now (a .0)))
   pub step : Says w step.ended step.clauses (λ κs a x. x .0 ≡ steps.step (a .0) (now (a .1 .0)))

@@ -1,5 +1,5 @@
 -- P: document 01's "Small facts on each side of an edge", of the definitions that the contracts cite. A row for each line; `P` is the one statement. Definitions only.
-use Prim.Native.Nat.{ℕ}
+use Prim.Native.Nat.{ℕ, _-_}
 use mathlib.Core.Path.{_≡_}
 use mathlib.Core.Bool.{true, false}
 use mathlib.Core.Option.{some}
@@ -7,6 +7,7 @@ use mathlib.Core.List.{List, [], _∷_, _++_, map}
 use lib.IntN.{ℤ, pos, negsuc}
 use lib.ListN.{getD, replicate}
 use lib.Ieee.{Float, binary32, ofInt, ofBits, add, nan}
+use Rattle.config.specs.Config.{edges}
 use Rattle.config.specs.Refusals.{accepted, badValue}
 use Rattle.laws.specs.Passes.{passes6}
 use Rattle.kf_work.specs.Work.{plan}
@@ -16,8 +17,8 @@ use Rattle.measurement.specs.Measurement.{flagOf}
 use Rattle.laws.specs.Numbers.{zero32}
 use Rattle.synthesis_steps.specs.Places.{unfolded, output, remains}
 use Rattle.synthesis.specs.Synthesis.{Lent, number, index}
-use Rattle.laws.specs.Greatest.{First}
-use Rattle.loudest.specs.Loudest.{heard, paper}
+use Rattle.laws.specs.Greatest.{First, best}
+use Rattle.loudest.specs.Loudest.{products, heard, ofLoud, paper}
 
 -- a whole number as an f32
 abbrev pub whole : ℤ → Float
@@ -31,9 +32,9 @@ bands b = ofBits binary32 0x3f800000 ∷ replicate 61 zero32 ++ (ofBits binary32
 abbrev pub loud7 : ℕ → Lent
 loud7 b = record { lines = replicate 7 zero32 ++ (ofBits binary32 b ∷ replicate 52 zero32); samples = replicate 60 zero32 }
 
--- 60 energies, zero but bands 7 and 20 with the bits b
-abbrev pub twins : ℕ → List Float
-twins b = replicate 7 zero32 ++ (ofBits binary32 b ∷ replicate 12 zero32 ++ (ofBits binary32 b ∷ replicate 39 zero32))
+-- 64 energies, zero but band b with the bits x and band 60 with the bits y: at configuration 9, of 48 kHz, band 2 has one line, band 50 eleven, and band 60 twenty
+abbrev pub beside60 : ℕ → ℕ → ℕ → List Float
+beside60 b x y = replicate b zero32 ++ (ofBits binary32 x ∷ replicate (59 - b) zero32 ++ (ofBits binary32 y ∷ replicate 3 zero32))
 
 pub record Facts : Type 0 where
   -- P1 plan of 30: 2,15,3,5,5,1
@@ -64,6 +65,10 @@ pub record Facts : Type 0 where
   pub p11-accepted : number 0 (loud7 0x5d800000) ≡ accepted
   pub p11-refused : number 0 (loud7 0x5d800001) ≡ badValue
   pub p11-index : index badValue (loud7 0x5d800001) ≡ 7
-  -- P12 two equal greatest energies: the lower band. Bands 7 and 20 with 2.0; and of any energies, the band told is the first with the greatest.
-  pub p12 : paper (heard (twins 0x40000000)) ≡ record { number = accepted; index = 0; values = some (7, ofBits binary32 0x40000000) }
-  pub p12-any : (l : List Float) (b : ℕ) (e : Float) → paper (heard l) .values ≡ some (b, e) → First l b × (e ≡ getD l b nan)
+  -- P12, which with document 02 §2 reads: two equal greatest products, the lower band. A hum of 20.0 in band 2 and a tone of 1.0 in band 60, whose products are both 20.0
+  pub p12 : paper (heard 9 (beside60 2 0x41a00000 0x3f800000)) ≡ ofLoud 2 (ofBits binary32 0x41a00000)
+  -- A hum of 3.0 and the same tone: the mean of band 2 is greater, the product of band 60.
+  pub p12-mean : best (beside60 2 0x40400000 0x3f800000) 64 ≡ 2
+  pub p12-broad : paper (heard 9 (beside60 2 0x40400000 0x3f800000)) ≡ ofLoud 60 (ofBits binary32 0x41a00000)
+  -- And of any energies, the band told is the first with the greatest product, and comes with it
+  pub p12-any : (c : ℕ) (l : List Float) (b : ℕ) (p : Float) → paper (heard c l) .values ≡ some (b, p) → First (products (edges c) l) b × (p ≡ getD (products (edges c) l) b nan)

@@ -2,6 +2,7 @@ pub mod Sequence
 pub mod AnalysisChannel
 pub mod SynthesisChannel
 pub mod Facts
+pub mod Loudest
 pub mod Entries
 pub mod Flags
 pub mod Papers

@@ -60,12 +60,12 @@ abbrev pub Energies : ℕ → List Float → Type 0
 Energies c l = Each Energy (energiesOf c l)
 
 abbrev pub Hears : ℕ → List Float → Type 0
-Hears c l = paper (heard (energiesOf c l)) .number ≡ refusals.accepted
+Hears c l = paper (heard c (energiesOf c l)) .number ≡ refusals.accepted
 
 -- the numbers that the listing is told along frames, as `frameLines` goes through them: each frame's, its measurement's, and the loudest band's on its energies
 abbrev pub numbers : Channel → List (List ℤ) → List ℕ
 numbers a [] = []
-numbers a (x ∷ xs) = framed a x .0 .number ∷ measured a x .number ∷ paper (heard (measured a x .energies)) .number ∷ numbers (framed a x .1) xs
+numbers a (x ∷ xs) = framed a x .0 .number ∷ measured a x .number ∷ paper (heard (a .config) (measured a x .energies)) .number ∷ numbers (framed a x .1) xs
 
 -- P holds of the configuration and the lines of an accepted frame, "for any samples and any history from a clear": after any calls at all, as `by-definition` of
 -- demand 3 has them
@@ -90,7 +90,7 @@ pub record NoOverflow : Type 0 where
   pub listed : (c : ℕ) → T (valid c) → (bytes : List ℕ) → Each (λ n. n ≡ refusals.accepted) (numbers (cleared c .channel) (contents c bytes .frames))
   -- The energies of any nf lines that pass 6 pass 7, since a line's square is at most 2^120; and the loudest band takes them.
   pub measured : (c : ℕ) → T (valid c) → (l : List Float) → length l ≡ nf c → Each (λ x. T (passes6 x)) l → Each (λ x. T (passes7 x)) (energiesOf c l)
-  pub measured-heard : (c : ℕ) → T (valid c) → (l : List Float) → length l ≡ nf c → Each (λ x. T (passes6 x)) l → paper (heard (energiesOf c l)) .number ≡ refusals.accepted
+  pub measured-heard : (c : ℕ) → T (valid c) → (l : List Float) → length l ≡ nf c → Each (λ x. T (passes6 x)) l → paper (heard c (energiesOf c l)) .number ≡ refusals.accepted
   -- "in synthesis, for lines that pass 6 with any history from a clear, every sample .. is finite": a frame with another line is refused
   pub samples : (c : ℕ) (a : synthesisChannel.Channel) → clears synthesis c ≡ some a → (qs : List (Call synthesisCalls.Lent)) (x : synthesisCalls.Lent)
       → synthesisCalls.frames (after synthesis a qs) x .0 .number ≡ refusals.accepted → Each Finite (synthesisCalls.frames (after synthesis a qs) x .0 .samples)

@@ -1,17 +1,16 @@
 -- What the answers that are enums come to in the paper's terms, for any input: the number, and the values beside it. Definitions only.
 use Prim.Native.Nat.{ℕ, _*_, _≤_, _<_}
 use mathlib.Core.Path.{_≡_}
-use mathlib.Core.Bool.{true, false}
-use mathlib.Core.Option.{some, none}
+use mathlib.Core.Bool.{true}
 use mathlib.Core.List.{List, [], _∷_}
 use lib.ListN.{length, getD, take}
 use lib.Ieee.{Float, nan}
 use Rattle.laws.specs.Lists.{first}
 use Rattle.laws.specs.Passes.{passes7}
-use Rattle.config.specs.Config.{largest, nf, among, bandCounts}
+use Rattle.config.specs.Config.{largest, nf, nb, edges}
 use Rattle.config.specs.Refusals.{accepted, badConfig, badEnergies, badEnergy, shortFile, badMark, badVersion, cutFrame}
 use Rattle.laws.specs.Greatest.{best}
-use Rattle.loudest.specs.Loudest.{silent, heard, paper}
+use Rattle.loudest.specs.Loudest.{products, silent, heard, ofLoud, ofQuiet, ofRefusal, paper}
 use Rattle.frame_file.specs.File.{lmf, byte, short, headerOf, recordOf}
 use Rattle.frame_file.specs.Paper.{Paper, headerPaper, recordPaper}
 use Rattle.call_log.specs.Log as log
@@ -46,17 +45,17 @@ abbrev pub beside : List ℕ → Paper
 beside values = record { number = accepted; values = values }
 
 pub record Papers : Type 0 where
-  -- the loudest band of energies as many as no configuration has bands: 5, with index 0 and no values
-  pub bad-energies : (l : List Float) → among bandCounts (length l) ≡ false → paper (heard l) ≡ record { number = badEnergies; index = 0; values = none }
-  -- of as many as a configuration has bands, of which one does not pass: 7, with the first such index and no values
-  pub bad-energy : (l : List Float) → among bandCounts (length l) ≡ true → first passes7 l < length l
-      → paper (heard l) ≡ record { number = badEnergy; index = first passes7 l; values = none }
+  -- the loudest band at a configuration above the largest: 1, with index 0 and no values, whatever the energies
+  pub no-config : (c : ℕ) (l : List Float) → largest < c → paper (heard c l) ≡ ofRefusal badConfig 0
+  -- at a configuration, of another number of energies than it has bands: 5, with index 0 and no values
+  pub bad-energies : (c : ℕ) (l : List Float) → c ≤ largest → (length l ≡ nb c → ⊥) → paper (heard c l) ≡ ofRefusal badEnergies 0
+  -- of as many as it has bands, of which one does not pass: 7, with the first such index and no values
+  pub bad-energy : (c : ℕ) (l : List Float) → c ≤ largest → length l ≡ nb c → first passes7 l < length l → paper (heard c l) ≡ ofRefusal badEnergy (first passes7 l)
   -- of as many zeros: 0 and no values
-  pub quiet : (l : List Float) → among bandCounts (length l) ≡ true → ((k : ℕ) → k < length l → silent (getD l k nan) ≡ true)
-      → paper (heard l) ≡ record { number = accepted; index = 0; values = none }
-  -- of as many that pass, of which one is not zero: 0, with the scan's band and its energy, which `p12-any` of P says is the first with the greatest
-  pub loud : (l : List Float) → among bandCounts (length l) ≡ true → first passes7 l ≡ length l → first silent l < length l
-      → paper (heard l) ≡ record { number = accepted; index = 0; values = some (best l (length l), getD l (best l (length l)) nan) }
+  pub quiet : (c : ℕ) (l : List Float) → c ≤ largest → length l ≡ nb c → ((k : ℕ) → k < length l → silent (getD l k nan) ≡ true) → paper (heard c l) ≡ ofQuiet
+  -- of as many that pass, of which one is not zero: 0, with the scan's band and its product, which `p12-any` of P says is the first with the greatest
+  pub loud : (c : ℕ) (l : List Float) → c ≤ largest → length l ≡ nb c → first passes7 l ≡ length l → first silent l < length l
+      → let ps = products (edges c) l in paper (heard c l) ≡ ofLoud (best ps (length l)) (getD ps (best ps (length l)) nan)
   -- a file shorter than 6 bytes: 8
   pub short-file : (f : List ℕ) → length f < 6 → ofFile f ≡ alone shortFile
   -- 6 bytes or more, the first three not `LMF`: 9
@@ -79,10 +78,10 @@ pub record Papers : Type 0 where
   pub short-log : (b : List ℕ) → length b < 5 → ofLog b ≡ alone shortFile
   -- 5 bytes or more, the first three not `LMC`: 9
   pub bad-log-mark : (b : List ℕ) → 5 ≤ length b → (take 3 b ≡ lmc → ⊥) → ofLog b ≡ alone badMark
-  -- `LMC`, and a version that is not 2: 10
-  pub bad-log-version : (b : List ℕ) → 5 ≤ length b → take 3 b ≡ lmc → (short b 3 ≡ 2 → ⊥) → ofLog b ≡ alone badVersion
+  -- `LMC`, and a version that is not 3: 10
+  pub bad-log-version : (b : List ℕ) → 5 ≤ length b → take 3 b ≡ lmc → (short b 3 ≡ 3 → ⊥) → ofLog b ≡ alone badVersion
   -- else 0, and no value
-  pub good-log : (b : List ℕ) → 5 ≤ length b → take 3 b ≡ lmc → short b 3 ≡ 2 → ofLog b ≡ alone accepted
+  pub good-log : (b : List ℕ) → 5 ≤ length b → take 3 b ≡ lmc → short b 3 ≡ 3 → ofLog b ≡ alone accepted
   -- a clear takes its kind and its configuration
   pub whole-call : (c : ℕ) (b : List ℕ) → ofCall (1 ∷ c ∷ b) ≡ 2 ∷ []
   -- cut after its kind it is stopped

@@ -58,7 +58,7 @@ pub record Peaks : Type 0 where
   pub each : (c : ℕ) (x : Lent) → measures c x .number ≡ refusals.accepted → (b : ℕ) → b < nb c → Peak c (x .lines) b (getD (measures c x .peaks) b 0)
   -- No other line is so.
   pub only : (c : ℕ) (l : List Float) (b p q : ℕ) → Peak c l b p → Peak c l b q → p ≡ q
-  -- In the words that the loudest band's answer uses: counted from its band's first line, it is the `First` of the band's products.
+  -- In the words that the loudest band's answer uses: counted from its band's first line, it is the `First` of the products of the band's lines.
   pub in-words : (c : ℕ) (x : Lent) → measures c x .number ≡ refusals.accepted → (b : ℕ) → b < nb c
       → First (squares (bandOf (edges c) (x .lines) b)) (peak (bandOf (edges c) (x .lines) b))
       × (getD (measures c x .peaks) b 0 ≡ getD (edges c) b 0 + peak (bandOf (edges c) (x .lines) b))

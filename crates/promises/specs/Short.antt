@@ -5,7 +5,7 @@ use mathlib.Core.Bool.{true, false}
 use mathlib.Core.List.{List, [], _∷_, map}
 use lib.IntN.{ℤ}
 use lib.Ieee.{Float, binary32, add}
-use Rattle.config.specs.Config.{valid, nf, z, ne, nb, rate, duration, upper, among, fftSizes, dctLengths, bandCounts}
+use Rattle.config.specs.Config.{valid, nf, z, ne, nb, rate, duration, upper, among, fftSizes, dctLengths}
 use Rattle.kf_work.specs.Work.{plan}
 use Rattle.analysis_steps.specs.Buffer.{bufferStep}
 use Rattle.synthesis_steps.specs.Places.{output, remains}
@@ -24,10 +24,6 @@ allSizes = 10 ∷ 20 ∷ 30 ∷ 40 ∷ 60 ∷ 80 ∷ 90 ∷ 120 ∷ 160 ∷ 180 
 -- the DCT lengths: twice these
 abbrev pub allLengths : List ℕ
 allLengths = map (λ n. 2 * n) allSizes
-
--- "every nb"
-abbrev pub allCounts : List ℕ
-allCounts = 20 ∷ 35 ∷ 39 ∷ 40 ∷ 43 ∷ 44 ∷ 50 ∷ 52 ∷ 54 ∷ 55 ∷ 60 ∷ 64 ∷ []
 
 pub record Short : Type 0 where
   -- "frames of 5 ms and 2.5 ms at the five rates"
@@ -58,8 +54,6 @@ pub record Short : Type 0 where
   -- "2 accepts the new sizes", and none but the sizes and lengths above, of any number
   pub sizes : (n : ℕ) → among fftSizes n ≡ among allSizes n
   pub lengths : (n : ℕ) → among dctLengths n ≡ among allLengths n
-  -- "5 at the loudest band every nb", and none but those above
-  pub counts : (n : ℕ) → among bandCounts n ≡ among allCounts n
   -- P6 with z 0: the past is the whole frame before
   pub buffer-whole : (a0 a1 a2 a3 a4 a5 a6 a7 b0 b1 b2 b3 : ℤ)
       → bufferStep 4 0 (a0 ∷ a1 ∷ a2 ∷ a3 ∷ a4 ∷ a5 ∷ a6 ∷ a7 ∷ []) (b0 ∷ b1 ∷ b2 ∷ b3 ∷ []) ≡ a4 ∷ a5 ∷ a6 ∷ a7 ∷ b0 ∷ b1 ∷ b2 ∷ b3 ∷ []

@@ -33,14 +33,14 @@ unfolding headerOf
 returns-3 c =
     let b = c .before .before .before .before .before .before .before .args .b .now in
     let version = c .before .short .ensures ∙ ap short (c .before .before .rest .ensures) in
-    sym (rw (le-ltb (length b) 5 (c .before .before .before .before .before .if1 .left), sym (c .before .before .before .before .marked .ensures) ∙ not-false _ (c .before .before .before .if2 .left), ne-eqb (short (drop 3 b)) 2 (λ e. c .if3 .taken (version ∙ e))))
+    sym (rw (le-ltb (length b) 5 (c .before .before .before .before .before .if1 .left), sym (c .before .before .before .before .marked .ensures) ∙ not-false _ (c .before .before .before .if2 .left), ne-eqb (short (drop 3 b)) 3 (λ e. c .if3 .taken (version ∙ e))))
 
 returns-4 : tie.Need-returns-4
 unfolding headerOf
 returns-4 c =
     let b = c .before .before .before .before .before .before .before .args .b .now in
     let version = c .before .short .ensures ∙ ap short (c .before .before .rest .ensures) in
-    sym (rw (le-ltb (length b) 5 (c .before .before .before .before .before .if1 .left), sym (c .before .before .before .before .marked .ensures) ∙ not-false _ (c .before .before .before .if2 .left), eq-eqb (short (drop 3 b)) 2 (sym version ∙ c .if3 .left)))
+    sym (rw (le-ltb (length b) 5 (c .before .before .before .before .before .if1 .left), sym (c .before .before .before .before .marked .ensures) ∙ not-false _ (c .before .before .before .if2 .left), eq-eqb (short (drop 3 b)) 3 (sym version ∙ c .if3 .left)))
 
 pub read-header-spec : {M : Type 1} → statement M
 read-header-spec =

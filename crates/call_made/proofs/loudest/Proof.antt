@@ -3,7 +3,7 @@ use mathlib.Core.Path.{ap, _∙_}
 use Prim.Native.Nat.{ℕ}
 use Rattle.laws.specs.Lists.{tab}
 use Rattle.call_log.specs.Log.{floatOf}
-use lib.ListN.{drop}
+use lib.ListN.{getD, drop}
 use borrow.Author.Needs.{needs}
 use Rattle.call_made.specs.Made.{loudestOn}
 use Rattle.call_made.proofs.Lends.{lends}
@@ -14,7 +14,7 @@ returns : tie.Need-returns
 returns c =
     let s = c .before .before .before in
     let l = lends (s .before .before .before .area .ensures) (s .before .before .rest .ensures) (s .count-floats .ensures) in
-    c .before .loudest-on .ensures .0 ∙ ap (λ (n : ℕ). loudestOn (tab n (floatOf (drop 1 (s .before .before .before .before .before .args .b .now))))) (l .long)
+    c .before .loudest-on .ensures .0 ∙ ap (λ (n : ℕ). loudestOn (getD (s .before .before .before .before .before .args .b .now) 1 0) (tab n (floatOf (drop 2 (s .before .before .before .before .before .args .b .now))))) (l .long)
 
 pub loudest-spec : {M : Type 1} → statement M
 loudest-spec =

@@ -18,6 +18,9 @@ rest-requires c κs = search needs
 floats-requires : tie.Need-floats-requires
 floats-requires c κs = search needs
 
+byte-at-requires : tie.Need-byte-at-requires
+byte-at-requires c κs = search needs
+
 loudest-band-requires : tie.Need-loudest-band-requires
 loudest-band-requires c κs = search needs
 
@@ -39,11 +42,12 @@ same-length c = search needs
 returns : tie.Need-returns
 returns c =
     let h = c .before .before .before .before .loudest-band in
-    let f = c .before .before .before .before .before .before .before .before in
+    let config = c .before .before .before .before .before .before .byte-at .ensures in
+    let f = c .before .before .before .before .before .before .before .before .before in
     let read = f .floats .ensures ∙ (λ j. tab (length (f .before .before .before .before .before .args .energies .now)) (floatOf (f .before .before .rest .ensures j))) in (
       c .one-area .ensures
           ∙ ap (λ (x : List Float). one (h .result .number) (h .result .index) Nothing x 0) (c .before .before .before .area .ensures .0)
-          ∙ told-is (h .result) (h .ensures) read (c .before .enum-told .given .1),
+          ∙ told-is (h .result) (h .ensures) config read (c .before .enum-told .given .1),
       read,
     )
 
@@ -59,12 +63,13 @@ same-length-2 c = search needs
 returns-2 : tie.Need-returns-2
 returns-2 c =
     let h = c .before .before .before .before .before .loudest-band in
-    let f = c .before .before .before .before .before .before .before .before .before in
+    let config = c .before .before .before .before .before .before .before .byte-at .ensures in
+    let f = c .before .before .before .before .before .before .before .before .before .before in
     let found = c .before .before .found .given in
     let read = f .floats .ensures ∙ (λ j. tab (length (f .before .before .before .before .before .args .energies .now)) (floatOf (f .before .before .rest .ensures j))) in (
       c .one-area2 .ensures
           ∙ ap (λ (x : List Float). one (h .result .number) (h .result .index) (Band (found .0 .0)) (set x 0 (found .0 .1 .0)) 1) (c .before .before .before .before .area .ensures .0)
-          ∙ told-is (h .result) (h .ensures) read (found .1),
+          ∙ told-is (h .result) (h .ensures) config read (found .1),
       read,
     )
 
@@ -74,6 +79,7 @@ loudest-on-spec =
     (tie.spec
     rest-requires
     floats-requires
+    byte-at-requires
     loudest-band-requires
     area-requires
     enum-known-found

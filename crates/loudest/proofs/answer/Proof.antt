@@ -1,38 +1,54 @@
--- `loudest::answer` meets its contract: the scan's energy is above zero where some energy is, and only there. Assumes nothing.
-use native.Mathlib.Omega.{arith}
+-- `loudest::answer` meets its contract: the greatest product is above zero where some energy is, and only there. Assumes nothing.
+use mathlib.Core.Path.{refl}
 use lib.Ieee.{ofBits}
-use Rattle.loudest.proofs.Rank.{inside, loud-is, quiet-is}
+use Rattle.loudest.proofs.Rank.{some, lent, within, loud-answer, quiet-answer}
 use borrow.Author.Needs.{needs}
 use Rattle.loudest.proofs.answer.Statement.{statement}
 use Rattle.loudest.proofs.answer.Tie as tie
 
+edges-requires : tie.Need-edges-requires
+edges-requires c κs = search needs
+
+slice-aggregate-scan : tie.Need-slice-aggregate-scan
+slice-aggregate-scan c = search needs
+
 scan-requires : tie.Need-scan-requires
-scan-requires c κs = search needs
+scan-requires c κs =
+    let s = c .before .before .before in
+    let e = c .before .edges .ensures in
+    let own = lent (s .args .c) (s .args .energies .now) _ (s .pre .0) (s .pre .1) e in
+    (some (s .args .c) (s .args .energies .now) _ (s .pre .0) (s .pre .1) e, own .0, own .1)
 
-mul-greatest : tie.Need-mul-greatest
-mul-greatest c =
-    let l = c .before .before .args .energies .now in
-    omega (arith, c .scan .ensures, inside l (c .before .before .pre .0) (c .before .before .pre .1), c .before .before .good)
+slice-aggregate-product : tie.Need-slice-aggregate-product
+slice-aggregate-product c = search needs
 
-shared-slice-read-greatest : tie.Need-shared-slice-read-greatest
-shared-slice-read-greatest c =
-    let l = c .before .before .before .args .energies .now in
-    omega (arith, c .before .scan .ensures, inside l (c .before .before .before .pre .0) (c .before .before .before .pre .1))
+product-requires : tie.Need-product-requires
+product-requires c κs =
+    let s = c .before .before .before .before .before in
+    let e = c .before .before .before .edges .ensures in
+    let own = lent (s .args .c) (s .args .energies .now) _ (s .pre .0) (s .pre .1) e in
+    (within (s .args .c) (s .args .energies .now) _ (s .pre .0) (s .pre .1) e (s .pre .2) _ _ (c .before .scan .ensures) refl, own .0, own .1)
 
 returns : tie.Need-returns
 unfolding ofBits
 returns c =
-    let l = c .before .before .before .before .args .energies .now in
-    let e = c .before .before .scan .ensures in
-    rw e (loud-is l (c .before .before .before .before .pre .0) (c .before .before .before .before .pre .1) (rw e at (c .if1 .taken)))
+    let s = c .before .before .before .before .before .before .before in
+    loud-answer (s .args .c) (s .args .energies .now) _ (s .pre .0) (s .pre .1) (c .before .before .before .before .before .edges .ensures) (s .pre .2) _ _ (c .before .before .before .scan .ensures) (c .before .product .ensures) (c .if1 .taken)
 
 returns-2 : tie.Need-returns-2
 unfolding ofBits
 returns-2 c =
-    let l = c .before .before .before .before .args .energies .now in
-    let e = c .before .before .scan .ensures in
-    quiet-is l (c .before .before .before .before .pre .0) (c .before .before .before .before .pre .1) (rw e at (c .if1 .left))
+    let s = c .before .before .before .before .before .before .before in
+    quiet-answer (s .args .c) (s .args .energies .now) _ (s .pre .0) (s .pre .1) (c .before .before .before .before .before .edges .ensures) (s .pre .2) _ _ (c .before .before .before .scan .ensures) (c .before .product .ensures) (c .before .before .before .before .before .before .shared-slice-known .given) (c .if1 .left)
 
 pub answer-spec : {M : Type 1} → statement M
 answer-spec =
-    tie.close (tie.spec scan-requires mul-greatest shared-slice-read-greatest returns returns-2)
+    tie.close
+    (tie.spec
+    edges-requires
+    slice-aggregate-scan
+    scan-requires
+    slice-aggregate-product
+    product-requires
+    returns
+    returns-2)

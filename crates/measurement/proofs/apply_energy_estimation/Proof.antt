@@ -3,11 +3,11 @@ use mathlib.Core.Path.{ap}
 use native.Mathlib.Omega.{arith}
 use lib.ListN.{length}
 use borrow.Author.Needs.{needs}
-use Rattle.config.proofs.Sound.{sound}
+use Rattle.config.proofs.Sound.{sound, edges-rise}
 use Rattle.measurement_steps.specs.Energy.{energies}
 use Rattle.measurement_steps.specs.Peak.{peaks}
 use Rattle.measurement.specs.Measurement.{energiesOf, peaksOf}
-use Rattle.measurement.proofs.Made.{edges-rise, by-edges, made-ones, made-own}
+use Rattle.measurement.proofs.Made.{by-edges, made-ones, made-own}
 use Rattle.measurement.proofs.apply_energy_estimation.Statement.{statement}
 use Rattle.measurement.proofs.apply_energy_estimation.Tie as tie
 
@@ -24,7 +24,7 @@ apply-energy-estimation-requires c κs =
     let st = c .before .before .before .before .before .before .before .before in
     let e = c .before .before .before .edges .ensures in
     let s = sound (st .args .c) (st .pre .0) in
-    (omega arith, omega (arith, ap length e), omega arith, edges-rise (st .args .c) _ _ _ (st .pre .0) (st .pre .2) (st .pre .1) e)
+    (omega arith, omega (arith, ap length e), omega arith, edges-rise (st .args .c) _ _ _ (st .pre .0) (st .pre .2) (omega (arith, st .pre .1, s .ne-le)) e)
 
 returns-2 : tie.Need-returns-2
 unfolding energiesOf peaksOf

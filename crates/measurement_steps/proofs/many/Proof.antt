@@ -7,8 +7,8 @@ use lib.Ieee.{binary32, ofInt}
 use mir.Syntax.{w32}
 use mir.ValLaws.{toZ-pos}
 use borrow.Author.Needs.{needs}
+use Rattle.laws.proofs.Whole.{width-fits}
 use Rattle.measurement_steps.specs.Peak.{upTo}
-use Rattle.measurement_steps.proofs.Sums.{width-fits}
 use Rattle.measurement_steps.proofs.Peaks.{at-place, whole-is}
 use Rattle.measurement_steps.proofs.many.Statement.{statement}
 use Rattle.measurement_steps.proofs.many.Tie as tie
