@@ -146,25 +146,22 @@ module _ (es : List ℕ) (l : List Float) (rise : Rising (length l) es 480) (all
 
 -- ---- the answer at the configuration c, from es, which are its edges
 module _ (c : ℕ) (l : List Float) (es : List ℕ) (v : T (valid c)) (n : length l ≡ nb c) (e : es ≡ edges c) where
-  pub some : 0 < length l
-  some = omega (arith, n, sound c v .nb-pos)
-
-  -- what the steps ask of the edges
-  pub lent : (length l < length es) × Rising (length l) es 480
-  lent = (omega (arith, n, ap length e, sound c v .edges-65, sound c v .nb-le), rw (e, n) (bands c v))
+  -- what the scan asks: a band, an edge more than bands, and that they rise
+  pub asked : (0 < length l) × (length l < length es) × Rising (length l) es 480
+  asked = (omega (arith, n, sound c v .nb-pos), omega (arith, n, ap length e, sound c v .edges-65, sound c v .nb-le), rw (e, n) (bands c v))
 
   -- by the scan's band b, whose product is x
   module _ (all : first passes7 l ≡ length l) (b : ℕ) (x : Float) (eb : b ≡ best (products es l) (length l)) (ex : x ≡ product es l b) where
     pub within : b < length l
-    within = rw eb (inside es l (lent .1) all some)
+    within = rw eb (inside es l (asked .2) all (asked .0))
 
     value : x ≡ getD (products es l) (best (products es l) (length l)) nan
     value = ex ∙ sym (product-at es l b within) ∙ ap (λ (k : ℕ). getD (products es l) k nan) eb
 
     pub loud-answer : lt none x ≡ true → Loud b x ≡ loudest c l
     unfolding loudest
-    loud-answer h = rw (← e, ne-eqb (first silent l) (length l) (loud-is es l (lent .1) all some (rw value at h))) (λ j. Loud (eb j) (value j))
+    loud-answer h = rw (← e, ne-eqb (first silent l) (length l) (loud-is es l (asked .2) all (asked .0) (rw value at h))) (λ j. Loud (eb j) (value j))
 
     pub quiet-answer : ((k : ℕ) → T (fits binary32 (getD l k nan))) → lt none x ≡ false → Quiet ≡ loudest c l
     unfolding loudest
-    quiet-answer held h = rw (eq-eqb (first silent l) (length l) (quiet-is es l (lent .1) all some held (rw value at h)))
+    quiet-answer held h = rw (eq-eqb (first silent l) (length l) (quiet-is es l (asked .2) all (asked .0) held (rw value at h)))

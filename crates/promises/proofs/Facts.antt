@@ -22,7 +22,7 @@ use Rattle.synthesis_steps.specs.Places.{mirrored, unfolded, output, remains}
 use Rattle.loudest.specs.declared.Loudest.the-variants.{Quiet}
 use Rattle.laws.specs.Greatest.{First, best}
 use Rattle.loudest.specs.Loudest.{products, heard, told, refusal, loudest, loud, silent, paper}
-use Rattle.loudest.proofs.Rank.{lent, scanned, some as some-bands}
+use Rattle.loudest.proofs.Rank.{asked, scanned}
 use Rattle.promises.specs.Facts.{Facts}
 
 -- the band told is the scan's
@@ -50,7 +50,8 @@ p12-any c l b p = go (valid c) (eqb (length l) (nb c)) (eqb (first passes7 l) (l
     go true true true true s t u h = absurd (Option·none-ne-some (b, p) h)
     go true true true false s t u h =
         let n : length l ≡ nb c = eqb-true _ _ t in
-        same (Option·some-injective (at, getD ps at nan) (b, p) h) (scanned (edges c) l (lent c l (edges c) (s tt) n refl .1) (eqb-true _ _ u) (some-bands c l (edges c) (s tt) n refl))
+        let a = asked c l (edges c) (s tt) n refl in
+        same (Option·some-injective (at, getD ps at nan) (b, p) h) (scanned (edges c) l (a .2) (eqb-true _ _ u) (a .0))
 
 -- THE STATEMENT
 pub P : Facts

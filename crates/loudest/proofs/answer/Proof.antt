@@ -1,7 +1,7 @@
 -- `loudest::answer` meets its contract: the greatest product is above zero where some energy is, and only there. Assumes nothing.
 use mathlib.Core.Path.{refl}
 use lib.Ieee.{ofBits}
-use Rattle.loudest.proofs.Rank.{some, lent, within, loud-answer, quiet-answer}
+use Rattle.loudest.proofs.Rank.{asked, within, loud-answer, quiet-answer}
 use borrow.Author.Needs.{needs}
 use Rattle.loudest.proofs.answer.Statement.{statement}
 use Rattle.loudest.proofs.answer.Tie as tie
@@ -15,9 +15,7 @@ slice-aggregate-scan c = search needs
 scan-requires : tie.Need-scan-requires
 scan-requires c κs =
     let s = c .before .before .before in
-    let e = c .before .edges .ensures in
-    let own = lent (s .args .c) (s .args .energies .now) _ (s .pre .0) (s .pre .1) e in
-    (some (s .args .c) (s .args .energies .now) _ (s .pre .0) (s .pre .1) e, own .0, own .1)
+    asked (s .args .c) (s .args .energies .now) _ (s .pre .0) (s .pre .1) (c .before .edges .ensures)
 
 slice-aggregate-product : tie.Need-slice-aggregate-product
 slice-aggregate-product c = search needs
@@ -26,8 +24,8 @@ product-requires : tie.Need-product-requires
 product-requires c κs =
     let s = c .before .before .before .before .before in
     let e = c .before .before .before .edges .ensures in
-    let own = lent (s .args .c) (s .args .energies .now) _ (s .pre .0) (s .pre .1) e in
-    (within (s .args .c) (s .args .energies .now) _ (s .pre .0) (s .pre .1) e (s .pre .2) _ _ (c .before .scan .ensures) refl, own .0, own .1)
+    let a = asked (s .args .c) (s .args .energies .now) _ (s .pre .0) (s .pre .1) e in
+    (within (s .args .c) (s .args .energies .now) _ (s .pre .0) (s .pre .1) e (s .pre .2) _ _ (c .before .scan .ensures) refl, a .1, a .2)
 
 returns : tie.Need-returns
 unfolding ofBits
