@@ -252,7 +252,7 @@ fn loudest(number: u8, energies: &[f32]) -> Result<Option<(usize, f32)>, Verdict
     let edges = c.transforms.edges();
     let product = |b: usize| energies[b] * (edges[b + 1] - edges[b]) as f32;
     let band = first_greatest(0, c.nb, product);
-    Ok((energies[band] > 0.0).then(|| (band, product(band))))
+    Ok(energies.iter().any(|&e| e > 0.0).then(|| (band, product(band))))
 }
 
 fn spelled(x: f32) -> String {

@@ -245,7 +245,7 @@ fn put_both(out: &mut [u8], at: usize, first: &[u8], x: &[f32], second: &[u8], y
     put_area(out, k, second, y)
 }
 
-// The line of the energy, where there is one.
+// The line `energy`, where there is one.
 fn put_energy(out: &mut [u8], at: usize, x: &[f32]) -> usize
     ensures { λ r. ⌜ page (now (out .exit)) r ≡ written (page (now (out .entry)) at) (energyLine (now (x .entry))) ⌝ }
 {

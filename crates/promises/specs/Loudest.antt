@@ -10,12 +10,15 @@ use lib.ListN.{length, getD, replicate}
 use lib.Ieee.{Float, nan, inf, binary32, ofBits, ofInt, fits}
 use lib.Ieee.Exact.{HasValue}
 use Rattle.laws.specs.Numbers.{zero32}
-use Rattle.laws.specs.Passes.{passes7}
+use Rattle.laws.specs.Passes.{passes6, passes7}
 use Rattle.config.specs.Config.{valid, nf, nb, edges}
 use Rattle.config.specs.Refusals.{badConfig, badEnergies, badEnergy}
 use Rattle.measurement_steps.specs.Energy.{bandOf}
-use Rattle.loudest.specs.Loudest.{width, product, silent, heard, ofLoud, ofQuiet, ofRefusal, paper}
+use Rattle.measurement.specs.Measurement.{energiesOf}
+use Rattle.bounds.specs.Within.{Each}
+use Rattle.loudest.specs.Loudest.{width, product, products, silent, heard, ofLoud, ofQuiet, ofRefusal, paper}
 use Rattle.promises.specs.Facts.{beside60}
+use Rattle.promises.specs.NoOverflow.{Finite}
 
 pub record Ranking : Type 0 where
   -- "Number of lines": a band's width is how many of a frame's nf lines are in it.
@@ -31,6 +34,8 @@ pub record Ranking : Type 0 where
   -- "An overflow ranking as infinity": above the greatest f32 in a band of one line; and of two infinities the first, though its energy is the smaller one.
   pub overflow : paper (heard 9 (beside60 2 0x7f7fffff 0x7f000000)) ≡ ofLoud 60 (inf false)
   pub two-infinities : paper (heard 9 (beside60 50 0x7f000000 0x7f7fffff)) ≡ ofLoud 50 (inf false)
+  -- Energies that a measurement gave, of any nf lines that pass 6, have products that are finite: an overflow is of energies from elsewhere.
+  pub never-infinite : (c : ℕ) → T (valid c) → (l : List Float) → length l ≡ nf c → Each (λ x. T (passes6 x)) l → Each Finite (products (edges c) (energiesOf c l))
   -- "1 is tested there before 5": configuration 20, whatever the energies and how many.
   pub config-first : (l : List Float) → paper (heard 20 l) ≡ ofRefusal badConfig 0
   -- "5, now for exactly nb": 60 energies at a configuration of 64 bands, and 64 at one of 60.

@@ -84,11 +84,11 @@ pub record NoOverflow : Type 0 where
   -- "every energy finite, not below zero and at most 2^61"
   pub energies : FromClear Energies
   pub energies-anywhere : OnAny Energies
-  -- So the loudest band never refuses the energies of an accepted frame.
+  -- So the loudest band, told the frame's configuration, never refuses the energies of an accepted frame.
   pub heard-anywhere : OnAny Hears
   -- So in the listing of a file of any bytes neither a frame nor its lines nor its energies are refused.
   pub listed : (c : ℕ) → T (valid c) → (bytes : List ℕ) → Each (λ n. n ≡ refusals.accepted) (numbers (cleared c .channel) (contents c bytes .frames))
-  -- The energies of any nf lines that pass 6 pass 7, since a line's square is at most 2^120; and the loudest band takes them.
+  -- The energies of any nf lines that pass 6 pass 7, since a line's square is at most 2^120; and the loudest band, told that configuration, takes them.
   pub measured : (c : ℕ) → T (valid c) → (l : List Float) → length l ≡ nf c → Each (λ x. T (passes6 x)) l → Each (λ x. T (passes7 x)) (energiesOf c l)
   pub measured-heard : (c : ℕ) → T (valid c) → (l : List Float) → length l ≡ nf c → Each (λ x. T (passes6 x)) l → paper (heard c (energiesOf c l)) .number ≡ refusals.accepted
   -- "in synthesis, for lines that pass 6 with any history from a clear, every sample .. is finite": a frame with another line is refused
