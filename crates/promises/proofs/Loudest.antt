@@ -4,7 +4,7 @@ use native.Mathlib.Nat.{le-of-eq, mul-one, mul-right-comm}
 use native.Mathlib.Omega.{arith}
 use mathlib.Core.Path.{_≡_, refl, sym, ap, _∙_}
 use mathlib.Core.Logic.{⊎-elim}
-use mathlib.Core.Bool.{true, false, true≢false}
+use mathlib.Core.Bool.{Bool, true, false, true≢false}
 use mathlib.Core.List.{List}
 use lib.Dec.{T, leb, leb→le, lit<, lit≤}
 use lib.IntN.{pos}
@@ -53,10 +53,13 @@ module _ (c : ℕ) (v : T (valid c)) (b : ℕ) (h : b < nb c) where
       (outcomes (silent x))
 
 -- ---- products that are finite
--- no band has more than 64 lines, at any configuration
-slim : T (every (λ i c. every (λ k e. leb (getD (edges c) (k + 1) 0 - e) 64) 0 (edges c)) 0 configs)
+-- no band of a configuration has more than 64 lines: from the edge e at place k to the next
+abbrev slim : ℕ → ℕ → ℕ → Bool
+slim c k e = leb (getD (edges c) (k + 1) 0 - e) 64
+
+test : T (every (λ i c. every (slim c) 0 (edges c)) 0 configs)
 unfolding edges edgeRows
-slim = tt
+test = tt
 
 -- a number is as large as its value
 whole-size : (n : ℕ) (x : Float) → HasValue x false n 1 → Size 149 n x
@@ -66,9 +69,7 @@ whole-size n (fin s m e) v = record { fact = le-of-eq (ap (λ (k : ℕ). k * 2 ^
 
 module _ (c : ℕ) (v : T (valid c)) where
   few : (b : ℕ) → b < nb c → width (edges c) b ≤ 64
-  few b h =
-      leb→le (width (edges c) b) 64
-      (at (λ k e. leb (getD (edges c) (k + 1) 0 - e) 64) (edges c) (each (λ i. every (λ k e. leb (getD (edges i) (k + 1) 0 - e) 64) 0 (edges i)) slim c v) b (omega (arith, sound c v .edges-65, sound c v .nb-le)))
+  few b h = leb→le (width (edges c) b) 64 (at (slim c) (edges c) (each (λ i. every (slim i) 0 (edges i)) test c v) b (omega (arith, sound c v .edges-65, sound c v .nb-le)))
 
   -- 2 ^ 121 times 64 is below the greatest f32
   finite-product : (b : ℕ) → b < nb c → (x : Float) → Within (2 ^ 121) 1 x → Finite (mul binary32 x (ofInt binary32 (pos (width (edges c) b))))
