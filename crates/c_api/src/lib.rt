@@ -7,6 +7,7 @@ ghost use Rattle.analysis.specs.Analysis as an;
 ghost use Rattle.measurement.specs.Measurement as ms;
 ghost use Rattle.synthesis.specs.Synthesis as sy;
 ghost use Rattle.loudest.specs.Loudest.{heard};
+ghost use Rattle.near_nyquist.specs.Sooner.{asked};
 ghost use Rattle.c_api.specs.Layout.{loudestHeard};
 use config::Verdict;
 use loudest::Loudest;
@@ -148,4 +149,12 @@ pub extern "C" fn loamscarf_loudest_band(config: u8, energies: &[f32]) -> Loudes
             product,
         },
     }
+}
+
+// Entry. Whether the energies of a configuration lie near the Nyquist frequency, and how many bands were read for it.
+#[no_mangle]
+pub extern "C" fn loamscarf_near_nyquist(config: u8, energies: &[f32]) -> near_nyquist::Asked
+    ensures { λ r. ⌜ r ≡ asked config (now (energies .entry)) ⌝ }
+{
+    near_nyquist::near_nyquist(config, energies)
 }

@@ -62,8 +62,8 @@ headerNumber Short = shortFile
 headerNumber Unmarked = badMark
 headerNumber Foreign = badVersion
 
--- ---- the calls: six fields each, kind after kind from 0 (no call) to 12; "a count or a length is 16 bits and at most 1,024"; 2 and 12 have "at the end the
--- length of the peaks' area", 7 is "told the configuration"
+-- ---- the calls: six fields each, kind after kind from 0 (no call, as 13) to 14; "a count or a length is 16 bits and at most 1,024"; 2 and 12 have "at the end the
+-- length of the peaks' area", 7 is "told the configuration", and so is 14
 unfoldable pub rows : List Field
 rows =
     Unknown ∷ Nothing ∷ Nothing ∷ Nothing ∷ Nothing ∷ Nothing ∷
@@ -78,7 +78,9 @@ rows =
     Byte ∷ Samples 300 ∷ Nothing ∷ Nothing ∷ Nothing ∷ Nothing ∷
     Byte ∷ Floats 300 ∷ Nothing ∷ Nothing ∷ Nothing ∷ Nothing ∷
     Samples 1024 ∷ Length ∷ Nothing ∷ Nothing ∷ Nothing ∷ Nothing ∷
-    Byte ∷ Floats 1024 ∷ Length ∷ Length ∷ Nothing ∷ Nothing ∷ []
+    Byte ∷ Floats 1024 ∷ Length ∷ Length ∷ Nothing ∷ Nothing ∷
+    Unknown ∷ Nothing ∷ Nothing ∷ Nothing ∷ Nothing ∷ Nothing ∷
+    Byte ∷ Floats 1024 ∷ Nothing ∷ Nothing ∷ Nothing ∷ Nothing ∷ []
 
 -- field i of a call of a kind
 unfoldable pub fieldOf : ℕ → ℕ → Field

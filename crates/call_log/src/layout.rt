@@ -16,7 +16,7 @@ pub enum Field {
 }
 
 // Six fields for each kind.
-const ROWS: [Field; 78] = [
+const ROWS: [Field; 90] = [
     // 0: no call
     Field::Unknown,
     Field::Nothing,
@@ -108,9 +108,23 @@ const ROWS: [Field; 78] = [
     Field::Length,
     Field::Nothing,
     Field::Nothing,
+    // 13: no call
+    Field::Unknown,
+    Field::Nothing,
+    Field::Nothing,
+    Field::Nothing,
+    Field::Nothing,
+    Field::Nothing,
+    // 14: the flag, sooner
+    Field::Byte,
+    Field::Floats(1024),
+    Field::Nothing,
+    Field::Nothing,
+    Field::Nothing,
+    Field::Nothing,
 ];
 
-fn rows() -> [Field; 78]
+fn rows() -> [Field; 90]
     ensures { λ r. ⌜ r ≡ rows ⌝ }
 {
     ROWS
@@ -121,7 +135,7 @@ pub fn field_of(kind: usize, i: usize) -> Field
     requires { ⌜ i < 6 ⌝ }
     ensures { λ r. ⌜ r ≡ fieldOf kind i ⌝ }
 {
-    if kind > 12 {
+    if kind > 14 {
         return Field::Unknown;
     }
     let all = rows();

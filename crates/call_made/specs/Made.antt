@@ -21,6 +21,8 @@ use Rattle.loudest.specs.Loudest.{heard}
 use Rattle.loudest.specs.declared.Heard.{Heard}
 use Rattle.loudest.specs.declared.Loudest.{Loudest}
 use Rattle.loudest.specs.declared.Loudest.the-variants.{Quiet, Loud}
+use Rattle.near_nyquist.specs.Sooner.{asked}
+use Rattle.near_nyquist.specs.declared.Asked.{Asked}
 use Rattle.call_made.specs.declared.Answer.{Answer}
 use Rattle.call_made.specs.declared.Analysed.{Analysed}
 use Rattle.call_made.specs.declared.Played.{Played}
@@ -160,6 +162,16 @@ loudestOn c x = let h = heard c x in told h (h .loudest)
 abbrev pub loudest : List ℕ → Answer
 loudest b = loudestOn (getD b 1 0) (floats (drop 2 b))
 
+-- 14: the place is the number of bands read
+abbrev pub askedAs : Asked → Answer
+askedAs a = withPeaks (a .number) (a .index) (Flag (a .answer)) area 0 (set peaks 0 (a .read)) 1
+
+unfoldable pub askOn : ℕ → List Float → Answer
+askOn c x = askedAs (asked c x)
+
+abbrev pub ask : List ℕ → Answer
+ask b = askOn (getD b 1 0) (floats (drop 2 b))
+
 -- 9 and 10: "at most as many as the channel's array has; the rest 0"
 abbrev pub places : List ℕ → ℕ
 places b = min (short b) 300
@@ -196,7 +208,8 @@ unfoldable pub onNone : Bench → ℕ → List ℕ → Bench
 onNone s kind b =
     cond (eqb kind 5) (withAnswer s (fft b))
     (cond (eqb kind 6) (withAnswer s (dct b))
-    (cond (eqb kind 7) (withAnswer s (loudest b)) (cond (eqb kind 12) (withAnswer s (measure b)) s)))
+    (cond (eqb kind 7) (withAnswer s (loudest b))
+    (cond (eqb kind 12) (withAnswer s (measure b)) (cond (eqb kind 14) (withAnswer s (ask b)) s))))
 
 unfoldable pub onSynthesis : Bench → ℕ → List ℕ → Bench
 onSynthesis s kind b =

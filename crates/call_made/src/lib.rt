@@ -6,9 +6,10 @@ ghost use lib.ListN.{length, getD, drop, replicate};
 ghost use Rattle.laws.specs.Lists.{tab};
 ghost use Rattle.call_log.specs.Log.{short, Places, sampleOf, floatOf};
 ghost use Rattle.dct_iv.specs.DctIv as dc;
-ghost use Rattle.call_made.specs.Made.{floats, pastFloats, pastSamples, withPeaks, one, plain, clearAnalysis, clearSynthesis, frameOn, frame, measureOn, measure, measureAfter, both, analyse, playOn, play, fftOn, fft, dct, loudestOn, loudest, setAnalysis, setSynthesis, withAnalysis, withSynthesis, withAnswer, fresh, onNone, onSynthesis, made};
+ghost use Rattle.call_made.specs.Made.{floats, pastFloats, pastSamples, withPeaks, one, plain, clearAnalysis, clearSynthesis, frameOn, frame, measureOn, measure, measureAfter, both, analyse, playOn, play, fftOn, fft, dct, loudestOn, loudest, askedAs, askOn, ask, setAnalysis, setSynthesis, withAnalysis, withSynthesis, withAnswer, fresh, onNone, onSynthesis, made};
 use call_text::Extra;
 use loudest::Loudest;
+use near_nyquist::Asked;
 
 // What a call answers: the numbers of its first line, and its output areas, m places of x, n of y and o of the peaks z.
 pub struct Answer {
@@ -381,6 +382,31 @@ fn loudest_on(b: &[u8], energies: &mut [f32]) -> Answer
     one_area(heard.number, heard.index, Extra::Band(band), x, 1)
 }
 
+// 14: the flag, sooner: the energies, the call. The place is the number of bands read.
+fn ask(b: &[u8]) -> Answer
+    ensures { λ r. ⌜ r ≡ ask (now (b .entry)) ⌝ }
+{
+    let mut room = call_log::area();
+    let k = call_log::count_floats(call_log::rest(b, 2), &room);
+    ask_on(b, &mut room[..k])
+}
+
+fn ask_on(b: &[u8], energies: &mut [f32]) -> Answer
+    ensures { λ r. ⌜ r ≡ askOn (getD (now (b .entry)) 1 0) (tab (length (now (energies .entry))) (floatOf (drop 2 (now (b .entry))))) ⌝ }
+    ensures { λ r. ⌜ now (energies .exit) ≡ tab (length (now (energies .entry))) (floatOf (drop 2 (now (b .entry)))) ⌝ }
+{
+    call_log::floats(call_log::rest(b, 2), energies);
+    asked_as(near_nyquist::near_nyquist(call_log::byte_at(b, 1), energies))
+}
+
+fn asked_as(a: Asked) -> Answer
+    ensures { λ r. ⌜ r ≡ askedAs a ⌝ }
+{
+    let mut z = call_log::peaks();
+    z[0] = a.read;
+    with_peaks(a.number, a.index, Extra::Flag(a.answer), call_log::area(), 0, z, 1)
+}
+
 // 9: set of the analysis channel.
 fn set_analysis(b: &[u8]) -> Analysed
     ensures { λ r. ⌜ r ≡ setAnalysis (now (b .entry)) ⌝ }
@@ -477,6 +503,7 @@ impl Bench {
             6 => self.answered(dct(b)),
             7 => self.answered(loudest(b)),
             12 => self.answered(measure(b)),
+            14 => self.answered(ask(b)),
             _ => self,
         }
     }

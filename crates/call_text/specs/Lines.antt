@@ -59,21 +59,24 @@ buffer = 0x62 ∷ 0x75 ∷ 0x66 ∷ 0x66 ∷ 0x65 ∷ 0x72 ∷ []
 abbrev pub energy : List ℕ
 energy = 0x65 ∷ 0x6e ∷ 0x65 ∷ 0x72 ∷ 0x67 ∷ 0x79 ∷ []
 
+abbrev pub read : List ℕ
+read = 0x72 ∷ 0x65 ∷ 0x61 ∷ 0x64 ∷ []
+
 -- "7, when loud, `energy` with its bits"; "with §2: the line `energy` has the product's bits"
 abbrev pub energyLine : List Float → List ℕ
 energyLine [] = []
 energyLine (x ∷ xs) = areaLine energy (x ∷ xs)
 
--- "a last area `peaks`, its places in decimal"
-unfoldable pub peaksLine : List ℕ → List ℕ
-peaksLine z = peaks ++ spaced decimal z ++ newline
+-- "a last area `peaks`, its places in decimal"; "a line `read N`"
+unfoldable pub placesLine : List ℕ → List ℕ → List ℕ
+placesLine name z = name ++ spaced decimal z ++ newline
 
 -- the energies' line, and after it the peaks': "a last area"
 abbrev pub measuredLines : List Float → List ℕ → List ℕ
-measuredLines y z = areaLine energies y ++ peaksLine z
+measuredLines y z = areaLine energies y ++ placesLine peaks z
 
 -- "kind 2 `lines`, `energies`; 4 `samples`; 5 `real`, `imag`; 6 `buffer`; 7, when loud, `energy`", "Kind 11: .. area `lines`. Kind 12: .. area `energies`",
--- "kinds 2 and 12 have a last area `peaks`": the lines of the areas x, y and z
+-- "kinds 2 and 12 have a last area `peaks`", "Kind 14: .. always a line `read N`": the lines of the areas x, y and z
 abbrev pub areaLines : ℕ → List Float → List Float → List ℕ → List ℕ
 areaLines kind x y z =
     cond (eqb kind 2) (areaLine lines x ++ measuredLines y z)
@@ -81,7 +84,7 @@ areaLines kind x y z =
     (cond (eqb kind 5) (areaLine real x ++ areaLine imag y)
     (cond (eqb kind 6) (areaLine buffer x)
     (cond (eqb kind 7) (energyLine x)
-    (cond (eqb kind 11) (areaLine lines x) (cond (eqb kind 12) (measuredLines x z) []))))))
+    (cond (eqb kind 11) (areaLine lines x) (cond (eqb kind 12) (measuredLines x z) (cond (eqb kind 14) (placesLine read z) [])))))))
 
 -- a word and a number, as `stopped K`
 unfoldable pub worded : List ℕ → ℕ → List ℕ
@@ -105,7 +108,7 @@ synthesisLine config x = worded synthesis config ++ spaced value x ++ newline
 unfoldable pub numbers : ℕ → ℕ → List ℕ
 numbers a b = decimal a ++ space ++ decimal b ++ space
 
--- "EXTRA is the flag 0 or 1 for kind 2, the band or `-` for kind 7, `-` else", "Kind 12: EXTRA the flag"
+-- "EXTRA is the flag 0 or 1 for kind 2, the band or `-` for kind 7, `-` else", "Kind 12: EXTRA the flag", "Kind 14: EXTRA the answer 0 or 1"
 abbrev pub extra : Extra → List ℕ
 extra Nothing = 0x2d ∷ []
 extra (Flag flag) = cond flag 0x31 0x30 ∷ []

@@ -9,9 +9,9 @@ ghost use lib.ListN.{take};
 ghost use Rattle.io.specs.Digits.{digits};
 ghost use Rattle.plain_text.specs.Text.{space, newline, decimal};
 ghost use Rattle.call_text.specs.Page.{page, written};
-ghost use Rattle.call_text.specs.Lines.{lines, value, sign, sample, spaced, worded, numbers, extra, answer, areaLine, peaksLine, measuredLines, energyLine, areaLines, callText, analysisLine, synthesisLine, showText, lastLine};
+ghost use Rattle.call_text.specs.Lines.{lines, value, sign, sample, spaced, worded, numbers, extra, answer, areaLine, placesLine, measuredLines, energyLine, areaLines, callText, analysisLine, synthesisLine, showText, lastLine};
 
-// What a call's first line says last: nothing, the flag of a measurement, the loudest band.
+// What a call's first line says last: nothing, the flag of a measurement or the sooner one, the loudest band.
 pub enum Extra {
     Nothing,
     Flag(bool),
@@ -123,7 +123,7 @@ fn put_samples(out: &mut [u8], at: usize, x: &[i16]) -> usize
     put(out, k, b'\n')
 }
 
-// A space and a peak.
+// A space and a place in decimal: a peak, or a number of bands.
 fn put_place(out: &mut [u8], at: usize, n: usize) -> usize
     ensures { λ r. ⌜ page (now (out .exit)) r ≡ written (page (now (out .entry)) at) (space ++ decimal n) ⌝ }
 {
@@ -131,7 +131,7 @@ fn put_place(out: &mut [u8], at: usize, n: usize) -> usize
     put_decimal(out, k, n as u64)
 }
 
-// The peaks of a measurement, and the line's end.
+// The places of a line in decimal, and the line's end.
 fn put_places(out: &mut [u8], at: usize, z: &[usize]) -> usize
     ensures { λ r. ⌜ page (now (out .exit)) r ≡ written (page (now (out .entry)) at) (spaced decimal (now (z .entry)) ++ newline) ⌝ }
 {
@@ -197,11 +197,11 @@ fn put_area(out: &mut [u8], at: usize, name: &[u8], x: &[f32]) -> usize
     put_values(out, k, x)
 }
 
-// The peaks' line.
-fn put_peaks(out: &mut [u8], at: usize, z: &[usize]) -> usize
-    ensures { λ r. ⌜ page (now (out .exit)) r ≡ written (page (now (out .entry)) at) (peaksLine (now (z .entry))) ⌝ }
+// A line of places in decimal.
+fn put_decimals(out: &mut [u8], at: usize, name: &[u8], z: &[usize]) -> usize
+    ensures { λ r. ⌜ page (now (out .exit)) r ≡ written (page (now (out .entry)) at) (placesLine (now (name .entry)) (now (z .entry))) ⌝ }
 {
-    let k = put_bytes(out, at, b"peaks");
+    let k = put_bytes(out, at, name);
     put_places(out, k, z)
 }
 
@@ -210,7 +210,7 @@ fn put_measured(out: &mut [u8], at: usize, y: &[f32], z: &[usize]) -> usize
     ensures { λ r. ⌜ page (now (out .exit)) r ≡ written (page (now (out .entry)) at) (measuredLines (now (y .entry)) (now (z .entry))) ⌝ }
 {
     let k = put_area(out, at, b"energies", y);
-    put_peaks(out, k, z)
+    put_decimals(out, k, b"peaks", z)
 }
 
 // The lines of a frame and its measurement.
@@ -267,6 +267,7 @@ fn put_areas(out: &mut [u8], at: usize, kind: u8, x: &[f32], y: &[f32], z: &[usi
         7 => put_energy(out, at, x),
         11 => put_area(out, at, b"lines", x),
         12 => put_measured(out, at, x, z),
+        14 => put_decimals(out, at, b"read", z),
         _ => at,
     }
 }

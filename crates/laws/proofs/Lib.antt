@@ -8,3 +8,4 @@ pub mod Whole
 pub mod Parts
 pub mod Bools
 pub mod Greatest
+pub mod Units

@@ -1,6 +1,7 @@
 -- Lists by their places. The invariant of a loop that writes place after place is `Filled`, of a search `first-at` and `first-none` close it.
 -- Assumes nothing.
 use mathlib.Core.Path.{_≡_, refl, sym, ap, _∙_}
+use mathlib.Core.Logic.{⊎-elim}
 use mathlib.Core.Bool.{Bool, true, false, cond}
 use mathlib.Core.List.{List, [], _∷_, _++_, append-nil, map}
 use Prim.Native.Nat.{ℕ, zero, suc, _+_, _≤_, _<_}
@@ -13,6 +14,7 @@ use lib.Dec.{eqb}
 use lib.ListN.{length, getD, take, drop, set, length-set}
 use lib.Seq.{drop-cons, set-at, append-snoc, drop-length, getD-at, ext-getD}
 use Rattle.laws.specs.Lists.{tab, first}
+use Rattle.laws.proofs.Bools.{outcomes}
 
 pub length-tab : {A : Type 0} (n : ℕ) (f : ℕ → A) → length (tab n f) ≡ n
 unfolding tab
@@ -121,8 +123,33 @@ unfolding first
 first-none p [] d h = refl
 first-none p (x ∷ xs) d h = rw (h 0 (omega arith)) (ap suc (first-none p xs d (λ k b. h (suc k) (omega arith))))
 
+pub first-le : {A : Type 0} (p : A → Bool) (l : List A) → first p l ≤ length l
+unfolding first
+first-le p [] = omega arith
+first-le p (x ∷ xs) = ⊎-elim (λ t. rw t (let h = first-le p xs in omega arith)) (λ f. rw f (omega arith)) (outcomes (p x))
+
+-- the places before it pass
+pub first-before : {A : Type 0} (p : A → Bool) (l : List A) (d : A) (k : ℕ) → k < first p l → p (getD l k d) ≡ true
+unfolding first
+first-before p [] d k h = absurd (not-suc-le-zero h)
+first-before p (x ∷ xs) d k h = ⊎-elim (λ t. go t (first-before p xs d) k (rw t at h)) (λ f. absurd (not-suc-le-zero (rw f at h))) (outcomes (p x))
+  where
+    go : p x ≡ true → ((i : ℕ) → i < first p xs → p (getD xs i d) ≡ true) → (k : ℕ) → k < suc (first p xs) → p (getD (x ∷ xs) k d) ≡ true
+    go t r zero h = t
+    go t r (suc k) h = r k (le-of-suc-le-suc h)
+
+-- where none fails, each passes
+pub first-all : {A : Type 0} (p : A → Bool) (l : List A) (d : A) → first p l ≡ length l → (k : ℕ) → k < length l → p (getD l k d) ≡ true
+first-all p l d e k h = first-before p l d k (omega arith)
+
+-- where one does, it is one that fails
+pub first-fails : {A : Type 0} (p : A → Bool) (l : List A) (d : A) → first p l < length l → p (getD l (first p l) d) ≡ false
+unfolding first
+first-fails p [] d h = absurd (not-suc-le-zero h)
+first-fails p (x ∷ xs) d h = ⊎-elim (λ t. rw t (first-fails p xs d (le-of-suc-le-suc (rw t at h)))) (λ f. rw f f) (outcomes (p x))
+
 -- a first place is inside where any place does not pass
-first-below : {A : Type 0} (p : A → Bool) (l : List A) (d : A) (k : ℕ) → k < length l → p (getD l k d) ≡ false → first p l < length l
+pub first-below : {A : Type 0} (p : A → Bool) (l : List A) (d : A) (k : ℕ) → k < length l → p (getD l k d) ≡ false → first p l < length l
 unfolding first
 first-below p [] d k l e = absurd (not-suc-le-zero l)
 first-below p (x ∷ xs) d zero l e = rw e (omega arith)

@@ -47,7 +47,7 @@ eqb-sym a b = ext (eqb a b) (eqb b a) (turn a b) (turn b a)
     turn x y t = subst (λ (z : ℕ). T (eqb y z)) (sym (eqb→eq x y t)) (eqb-refl y)
 
 -- below or equal, as `le` has it of two values of one sign
-is-le : (a b : ℕ) → (ltb a b || (eqb a b && true)) ≡ leb a b
+pub is-le : (a b : ℕ) → (ltb a b || (eqb a b && true)) ≡ leb a b
 is-le a b = ext (ltb a b || (eqb a b && true)) (leb a b) there back
   where
     there : T (ltb a b || (eqb a b && true)) → T (leb a b)

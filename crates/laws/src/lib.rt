@@ -65,3 +65,17 @@ pub fn first_failing_6(x: &[f32]) -> usize
     }
     search_6(x)
 }
+
+// Entry. The place of the first value that does not pass 7, or the length.
+pub fn first_failing_7(x: &[f32]) -> usize
+    ensures { λ r. ⌜ r ≡ first passes7 (now (x .entry)) ⌝ }
+{
+    let mut k = 0;
+    while k < x.len() {
+        if !passes_7(x[k]) {
+            return k;
+        }
+        k += 1;
+    }
+    k
+}

@@ -1,15 +1,14 @@
 -- A band's product: it can be ranked, and it is a zero exactly when the energy is. Assumes nothing.
 use mathlib.Core.Path.{_≡_, refl, sym, ap, _∙_, subst}
 use mathlib.Core.Logic.{⊎-elim}
-use mathlib.Core.Bool.{Bool, true, false, _&&_, _||_, true≢false}
-use Prim.Native.Nat.{ℕ, zero, suc, _*_, _%_, _^_, _≤_, _<_}
-use native.Mathlib.Nat.{not-suc-le-zero, le-trans, le-of-eq, mul-one, one-mul, zero-mul, mul-comm, mul-le-mul, mul-le-mul-right, mul-pos, eq-zero-or-pos}
+use mathlib.Core.Bool.{Bool, true, false, _||_, true≢false}
+use Prim.Native.Nat.{ℕ, _*_, _^_, _≤_, _<_}
+use native.Mathlib.Nat.{le-trans, le-of-eq, mul-one, one-mul, zero-mul, mul-comm, mul-le-mul, mul-le-mul-right, mul-pos, eq-zero-or-pos}
 use native.Mathlib.Omega.{arith}
-use lib.IntN.{ℤ}
-use lib.Dec.{T, eqb, ltb, leb, leb→le, lit<}
+use lib.Dec.{T, lit<}
 use lib.Pow.{pow-pos}
 use lib.Ieee.{Float, nan, inf, fin, binary32, unlike, up, down, below, level, round, mul, lt, eq, le, fits}
-use lib.Ieee.Fits.{up-pos, down-pos, and-l, and-r}
+use lib.Ieee.Fits.{up-pos, down-pos}
 use lib.Ieee.Exact.{HasValue, round-exact}
 use lib.Ieee.Order.{round-mono}
 use lib.Ieee.Positive.{first-pos}
@@ -18,6 +17,7 @@ use borrow.Author.Tests.{eq-eqb, ne-eqb, eqb-true, le-ltb}
 use Rattle.laws.specs.Passes.{passes7, ranked}
 use Rattle.laws.proofs.Sign.{round-plus}
 use Rattle.laws.proofs.Order.{plus-ranked}
+use Rattle.laws.proofs.Units.{fitting}
 use Rattle.loudest.specs.Loudest.{silent}
 
 -- ---- a zero
@@ -66,17 +66,6 @@ no-zero (fin false m e) (fin t k d) a c v A l z =
 smallest : HasValue (round binary32 false 1 (2 ^ 149)) false 1 (2 ^ 149)
 smallest = round-exact binary32 false 1 (2 ^ 149) 1 0 (pow-pos 149) (lit< tt) (lit< tt) refl
 
--- an f32 other than zero is a whole number of these
-steps : (s : Bool) (m : ℕ) (e : ℤ) → 0 < m → T (fits binary32 (fin s m e)) → down e ≤ 2 ^ 149
-unfolding fits
-steps s zero e p t = absurd (not-suc-le-zero p)
-steps s (suc m) e p t =
-    let a : Bool = eqb (suc m % 2) 1 in
-    let b : Bool = ltb (suc m) (2 ^ 24) in
-    let c : Bool = leb (down e) (2 ^ 149) in
-    let d : Bool = ltb (suc m * up e) (2 ^ 128 * down e) in
-    leb→le (down e) (2 ^ 149) (and-r (a && b) c (and-l (a && b && c) d t))
-
 -- ---- x times the whole number n, which is y
 pub times-zero : (x y : Float) (n : ℕ) → HasValue y false n 1 → silent x ≡ true → silent (mul binary32 x y) ≡ true
 unfolding mul
@@ -115,5 +104,5 @@ zero-times (fin false m e) (fin false k d) n v N f p h = ⊎-elim (λ z. eq-eqb 
     clash q =
         no-zero _ (mul binary32 (fin false m e) (fin false k d)) 1 (2 ^ 149) smallest (lit< tt)
         (round-mono binary32 1 (2 ^ 149) (m * up e * (k * up d)) (down e * down d) (pow-pos 149) (mul-pos (down-pos e) (down-pos d))
-        (bound (down e) (down d) (m * up e) (k * up d) (2 ^ 149) (steps false m e q f) (mul-pos q (up-pos e)) (le-trans (le-trans (le-of-eq (sym (one-mul (down d)))) (mul-le-mul-right (down d) N)) (le-of-eq (sym (v .1) ∙ mul-one (k * up d))))))
+        (bound (down e) (down d) (m * up e) (k * up d) (2 ^ 149) (fitting false m e q f .deep) (mul-pos q (up-pos e)) (le-trans (le-trans (le-of-eq (sym (one-mul (down d)))) (mul-le-mul-right (down d) N)) (le-of-eq (sym (v .1) ∙ mul-one (k * up d))))))
         h

@@ -1,10 +1,10 @@
 -- Products of energies that pass 7 can be ranked; where the greatest of them is zero, and only there, all energies are. Assumes nothing.
 use mathlib.Core.Path.{_≡_, refl, sym, ap, _∙_, subst}
 use mathlib.Core.Logic.{⊎-elim}
-use mathlib.Core.Bool.{Bool, true, false, true≢false}
-use mathlib.Core.List.{List, [], _∷_}
-use Prim.Native.Nat.{ℕ, zero, suc, _*_, _≤_, _<_}
-use native.Mathlib.Nat.{le-trans, not-suc-le-zero, le-of-suc-le-suc, zero-mul, mul-pos, eq-zero-or-pos}
+use mathlib.Core.Bool.{true, false, true≢false}
+use mathlib.Core.List.{List}
+use Prim.Native.Nat.{ℕ, _*_, _≤_, _<_}
+use native.Mathlib.Nat.{le-trans, zero-mul, mul-pos, eq-zero-or-pos}
 use native.Mathlib.Omega.{arith}
 use lib.Dec.{T, ltb, eqb, lit≤}
 use lib.ListN.{length, getD}
@@ -20,7 +20,7 @@ use borrow.Author.Tests.{eq-eqb, ne-eqb, lt-ltb, eqb-true, ltb-true}
 use Rattle.laws.proofs.Bools.{outcomes, holds}
 use Rattle.laws.specs.Lists.{first, Rising}
 use Rattle.laws.specs.Passes.{passes7, ranked}
-use Rattle.laws.proofs.Lists.{length-tab, getD-tab, first-none}
+use Rattle.laws.proofs.Lists.{length-tab, getD-tab, first-none, first-all}
 use Rattle.laws.proofs.Order.{above}
 use Rattle.laws.proofs.Whole.{whole-value}
 use Rattle.laws.specs.Greatest.{First, best}
@@ -30,25 +30,6 @@ use Rattle.config.proofs.Sound.{sound, edges-rise}
 use Rattle.loudest.specs.Loudest.{width, product, products, silent, loudest}
 use Rattle.loudest.specs.declared.Loudest.the-variants.{Quiet, Loud}
 use Rattle.loudest.proofs.Products.{times-ranked, times-zero, zero-times}
-
-pub first-le : {A : Type 0} (p : A → Bool) (l : List A) → first p l ≤ length l
-unfolding first
-first-le p [] = omega arith
-first-le p (x ∷ xs) = ⊎-elim (λ t. rw t (let h = first-le p xs in omega arith)) (λ f. rw f (omega arith)) (outcomes (p x))
-
--- where none fails, each passes
-pub first-all : {A : Type 0} (p : A → Bool) (l : List A) (d : A) → first p l ≡ length l → (k : ℕ) → k < length l → p (getD l k d) ≡ true
-unfolding first
-first-all p [] d e k h = absurd (not-suc-le-zero h)
-first-all p (x ∷ xs) d e k h =
-    ⊎-elim
-    (λ t. go t (λ i u. first-all p xs d (let q : suc (first p xs) ≡ suc (length xs) = rw t at e in omega arith) i u) k h)
-    (λ f. let z : zero ≡ suc (length xs) = rw f at e in absurd (omega arith))
-    (outcomes (p x))
-  where
-    go : p x ≡ true → ((i : ℕ) → i < length xs → p (getD xs i d) ≡ true) → (k : ℕ) → k < suc (length xs) → p (getD (x ∷ xs) k d) ≡ true
-    go t r zero h = t
-    go t r (suc k) h = r k (le-of-suc-le-suc h)
 
 -- ---- quiet
 abbrev none : Float

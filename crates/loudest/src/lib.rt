@@ -21,20 +21,6 @@ pub struct Heard {
     pub loudest: Loudest,
 }
 
-// The index of the first energy that does not pass 7, or the length where all pass.
-fn first_failing(energies: &[f32]) -> usize
-    ensures { λ r. ⌜ r ≡ first passes7 (now (energies .entry)) ⌝ }
-{
-    let mut i = 0;
-    while i < energies.len() {
-        if !laws::passes_7(energies[i]) {
-            return i;
-        }
-        i += 1;
-    }
-    i
-}
-
 // What band b is ranked by: its energy times its number of lines.
 fn product(energies: &[f32], edges: &[usize], b: usize) -> f32
     requires { ⌜ (b < length (now energies)) × (length (now energies) < length (now edges)) × Rising (length (now energies)) (now edges) 480 ⌝ }
@@ -98,7 +84,7 @@ pub fn loudest_band(config: u8, energies: &[f32]) -> Heard
     if energies.len() != config::nb(config) {
         return refused(5, 0);
     }
-    let failing = first_failing(energies);
+    let failing = laws::first_failing_7(energies);
     if failing < energies.len() {
         return refused(7, failing);
     }

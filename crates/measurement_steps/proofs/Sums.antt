@@ -19,7 +19,7 @@ pub stretch : (n i : ℕ) (xs : List Float) → i + n ≤ length xs → take n (
 stretch n i xs h = take-tab n (drop i xs) nan (omega (arith, length-drop i xs)) ∙ tab-ext n _ _ (λ k b. getD-drop i xs k nan)
 
 -- a sum goes on where another ends
-sum-on : (f : Float → Float) (acc : Float) (xs ys : List Float) → sumOf f acc (xs ++ ys) ≡ sumOf f (sumOf f acc xs) ys
+pub sum-on : (f : Float → Float) (acc : Float) (xs ys : List Float) → sumOf f acc (xs ++ ys) ≡ sumOf f (sumOf f acc xs) ys
 sum-on f acc [] ys = refl
 sum-on f acc (x ∷ xs) ys = sum-on f (add binary32 acc (f x)) xs ys
 

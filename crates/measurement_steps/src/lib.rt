@@ -259,8 +259,8 @@ pub fn ones(lines: &[f32], out: &mut [f32], places: &mut [usize])
     }
 }
 
-// The sum of energies, from 0.0 in their order.
-fn total(es: &[f32]) -> f32
+// Inner. The sum of energies, from 0.0 in their order.
+pub fn total(es: &[f32]) -> f32
     ensures { λ r. ⌜ r ≡ total (now (es .entry)) ⌝ }
 {
     let mut sum = 0.0f32;

@@ -69,6 +69,7 @@ entries w =
       passes-6 = (λ κs a. free w, λ κs a g x y. returns w x y refl);
       passes-7 = (λ κs a. free w, λ κs a g x y. returns w x y refl);
       first-failing-6 = (λ κs a. free w, λ κs a g x y. returns w x y refl);
+      first-failing-7 = (λ κs a. free w, λ κs a g x y. returns w x y refl);
       new = (λ κs a. free w, λ κs a g x y. returns w x y refl);
       add = (λ κs a. free w, λ κs a g x y. returns w x y refl);
       sub = (λ κs a. free w, λ κs a g x y. returns w x y refl);
@@ -149,6 +150,7 @@ entries w =
       dct-iv = (λ κs a. free w, λ κs a g x y. once w (λ (o : dct.Answer). (o .judged, (tt, (o .held, tt)))));
       silence-300 = (λ κs a. free w, λ κs a g x y. returns w x y refl);
       scale = (λ κs a. free w, λ κs a g x y. once w (λ l. (tt, (l, (tt, tt)))));
+      total = (λ κs a. free w, λ κs a g x y. returns w x y refl);
       zeros = (λ κs a. free w, λ κs a g x y. once w (λ l. (tt, (l, tt))));
       analysis-clear = (λ κs a. free w, λ κs a g x y. returns w x y refl);
       analysis-frame = (λ κs a. free w, λ κs a g x y. once′ w (λ (o : analysis.Given × analysisChannel.Channel). (analysis-framed o, (tt, (tt, (o .0 .lines, tt))))));
@@ -158,6 +160,7 @@ entries w =
       synthesis-frame = (λ κs a. free w, λ κs a g x y. once′ w (λ (o : synthesis.Given × synthesisChannel.Channel). (synthesis-framed o, (tt, (tt, (o .0 .samples, tt))))));
       synthesis-frame-at = (λ κs a. free w, λ κs a g x y. once′ w (λ (o : synthesis.Given × synthesisChannel.Channel). (synthesis-told o, (tt, (o .1 .memory, (tt, (o .0 .samples, tt)))))));
       loudest-band = (λ κs a. free w, λ κs a g x y. returns w x y refl);
+      near-nyquist = (λ κs a. free w, λ κs a g x y. returns w x y refl);
       read-header = (λ κs a. free w, λ κs a g x y. returns w x y refl);
       header-number = (λ κs a. free w, λ κs a g x y. returns w x y refl);
       read-record = (λ κs a. free w, λ κs a g x y. returns w x y refl);
@@ -196,6 +199,7 @@ entries w =
       c-synthesis-frame = (λ κs a. free w, λ κs a g x y. once′ w (λ (o : synthesis.Given × synthesisChannel.Channel). (synthesis-framed o, (tt, (tt, (o .0 .samples, tt))))));
       c-synthesis-frame-at = (λ κs a. free w, λ κs a g x y. once′ w (λ (o : synthesis.Given × synthesisChannel.Channel). (synthesis-told o, (tt, (o .1 .memory, (tt, (o .0 .samples, tt)))))));
       c-loudest-band = (λ κs a. free w, λ κs a g x y. returns w x y refl);
+      c-near-nyquist = (λ κs a. free w, λ κs a g x y. returns w x y refl);
     }
 
 pub cited : (w : World) → Cited w
@@ -211,6 +215,7 @@ cited w =
       synthesis-frame = λ κs a g x. refl;
       synthesis-frame-at = λ κs a g x. refl;
       loudest-band = λ κs a g x. refl;
+      near-nyquist = λ κs a g x. refl;
       opened = λ κs a g x. refl;
       step = λ κs a g x. refl;
     }

@@ -5,6 +5,7 @@ pub mod SynthesisLaw
 pub mod Kept
 pub mod Facts
 pub mod Loudest
+pub mod Sooner
 pub mod Entries
 pub mod Flags
 pub mod Papers

@@ -15,7 +15,7 @@ use borrow.Author.Tests.{eq-eqb}
 use Rattle.laws.specs.Lists.{first}
 use Rattle.laws.specs.Numbers.{zero32}
 use Rattle.laws.specs.Passes.{passes6, passes7}
-use Rattle.laws.proofs.Lists.{length-tab, first-none}
+use Rattle.laws.proofs.Lists.{length-tab, first-none, first-le, first-all}
 use Rattle.config.specs.Config.{valid, nf, z, ne, nb}
 use Rattle.config.specs.declared.Verdict.{Verdict}
 use Rattle.analysis_steps.specs.Buffer.{pastOf, bufferStep, bufferOf}
@@ -35,7 +35,6 @@ use Rattle.frame_file.specs.declared.Record.the-variants.{Frame, End, Cut, Astr
 use Rattle.frame_file.specs.File.{short, signed, samples, recordOf, Contents, ended, more, reading, contents}
 use Rattle.listing.specs.Listing.{zeros as zeros32}
 use Rattle.loudest.specs.Loudest.{heard, paper}
-use Rattle.loudest.proofs.Rank.{first-le, first-all}
 use Rattle.bounds.specs.Within as within
 use Rattle.bounds.specs.Within.{Each}
 use Rattle.bounds.proofs.Lists.{each-append, each-take, each-drop, each-replicate, each-tab, each-at, each-or, each-of, each-weaken}
@@ -252,7 +251,7 @@ after-kept : (c : ℕ) (a : synthesisChannel.Channel) → clears synthesis c ≡
 after-kept c a e qs = kept synthesis Kept (λ q. Unit {0}) clear-kept frame-kept c a e (any qs)
 
 -- ---- lines that pass 6, wherever they come from
-passing-7 : (c : ℕ) → T (valid c) → (l : List Float) → length l ≡ nf c → Each (λ x. T (passes6 x)) l → Each (λ x. T (passes7 x)) (energiesOf c l)
+pub passing-7 : (c : ℕ) → T (valid c) → (l : List Float) → length l ≡ nf c → Each (λ x. T (passes6 x)) l → Each (λ x. T (passes7 x)) (energiesOf c l)
 passing-7 c v l e a = each-weaken (λ x h. h .0) (energies-bound 60 (lit≤ tt) c v l e (each-weaken six-within a))
 
 pub no-overflow : NoOverflow

@@ -13,7 +13,7 @@ use borrow.Author.Tests.{eq-eqb, ne-eqb, ltb-false}
 use Rattle.laws.specs.Lists.{tab, first}
 use Rattle.laws.specs.Passes.{passes6, ranked}
 use Rattle.laws.specs.Greatest.{First, best}
-use Rattle.laws.proofs.Lists.{length-tab, getD-tab, length-map, getD-map}
+use Rattle.laws.proofs.Lists.{length-tab, getD-tab, length-map, getD-map, first-le, first-all}
 use Rattle.laws.proofs.Order.{plus-ranked}
 use Rattle.laws.proofs.Greatest.{best-first, best-most, alone}
 use Rattle.config.specs.Tables.{rows, edgeRows}
@@ -26,7 +26,6 @@ use Rattle.measurement.specs.Measurement as measurement
 use Rattle.measurement.specs.Measurement.{Lent, peaksOf, refusedBy, measures}
 use Rattle.measurement.proofs.Verdicts as verdicts
 use Rattle.measurement.proofs.Verdicts.{tells, by-number}
-use Rattle.loudest.proofs.Rank.{first-le, first-all}
 use Rattle.bounds.proofs.Bound.{sized}
 use Rattle.bounds.proofs.Energies.{square-plus}
 use Rattle.bounds.proofs.Samples.{six-within}

@@ -19,6 +19,7 @@ use borrow.Fn.World.{World, Pr}
 use Rattle.laws.proofs.passes_6
 use Rattle.laws.proofs.passes_7
 use Rattle.laws.proofs.first_failing_6
+use Rattle.laws.proofs.first_failing_7
 use Rattle.complex.proofs.Complex.new
 use Rattle.complex.proofs.Complex.add
 use Rattle.complex.proofs.Complex.sub
@@ -99,6 +100,7 @@ use Rattle.kissfft.proofs.fft
 use Rattle.dct_iv.proofs.dct_iv
 use Rattle.analysis_steps.proofs.silence_300
 use Rattle.analysis_steps.proofs.scale
+use Rattle.measurement_steps.proofs.total
 use Rattle.synthesis_steps.proofs.zeros
 use Rattle.analysis.proofs.clear as analysis-clear
 use Rattle.analysis.proofs.Channel.frame as analysis-frame
@@ -108,6 +110,7 @@ use Rattle.synthesis.proofs.clear as synthesis-clear
 use Rattle.synthesis.proofs.Channel.frame as synthesis-frame
 use Rattle.synthesis.proofs.frame_at as synthesis-frame-at
 use Rattle.loudest.proofs.loudest_band
+use Rattle.near_nyquist.proofs.near_nyquist
 use Rattle.frame_file.proofs.read_header
 use Rattle.frame_file.proofs.header_number
 use Rattle.frame_file.proofs.read_record
@@ -146,12 +149,14 @@ use Rattle.c_api.proofs.loamscarf_synthesis_clear
 use Rattle.c_api.proofs.loamscarf_synthesis_frame
 use Rattle.c_api.proofs.loamscarf_synthesis_frame_at
 use Rattle.c_api.proofs.loamscarf_loudest_band
+use Rattle.c_api.proofs.loamscarf_near_nyquist
 use Rattle.kissfft.specs.Fft as kissfft
 use Rattle.dct_iv.specs.DctIv as dct
 use Rattle.analysis.specs.Analysis as analysis
 use Rattle.measurement.specs.Measurement as measurement
 use Rattle.synthesis.specs.Synthesis as synthesis
 use Rattle.loudest.specs.Loudest.{heard}
+use Rattle.near_nyquist.specs.Sooner.{asked}
 use Rattle.listing.specs.Steps as steps
 
 -- what a call on the arguments a gives: the return, and what each slice lent for writing holds at exit
@@ -194,6 +199,7 @@ pub record Entries (w : World) : Type 1 where
   pub passes-6 : Entry w passes_6.ended passes_6.clauses
   pub passes-7 : Entry w passes_7.ended passes_7.clauses
   pub first-failing-6 : Entry w first_failing_6.ended first_failing_6.clauses
+  pub first-failing-7 : Entry w first_failing_7.ended first_failing_7.clauses
   -- complex, methods of Complex
   pub new : Entry w new.ended new.clauses
   pub add : Entry w add.ended add.clauses
@@ -280,9 +286,10 @@ pub record Entries (w : World) : Type 1 where
   pub fft : Entry w fft.ended fft.clauses
   -- dct_iv
   pub dct-iv : Entry w dct_iv.ended dct_iv.clauses
-  -- analysis_steps and synthesis_steps: the steps that ask nothing
+  -- analysis_steps, measurement_steps and synthesis_steps: the steps that ask nothing
   pub silence-300 : Entry w silence_300.ended silence_300.clauses
   pub scale : Entry w scale.ended scale.clauses
+  pub total : Entry w total.ended total.clauses
   pub zeros : Entry w zeros.ended zeros.clauses
   -- analysis
   pub analysis-clear : Entry w analysis-clear.ended analysis-clear.clauses
@@ -296,6 +303,8 @@ pub record Entries (w : World) : Type 1 where
   pub synthesis-frame-at : Entry w synthesis-frame-at.ended synthesis-frame-at.clauses
   -- loudest
   pub loudest-band : Entry w loudest_band.ended loudest_band.clauses
+  -- near_nyquist
+  pub near-nyquist : Entry w near_nyquist.ended near_nyquist.clauses
   -- frame_file
   pub read-header : Entry w read_header.ended read_header.clauses
   pub header-number : Entry w header_number.ended header_number.clauses
@@ -341,6 +350,7 @@ pub record Entries (w : World) : Type 1 where
   pub c-synthesis-frame : Entry w loamscarf_synthesis_frame.ended loamscarf_synthesis_frame.clauses
   pub c-synthesis-frame-at : Entry w loamscarf_synthesis_frame_at.ended loamscarf_synthesis_frame_at.clauses
   pub c-loudest-band : Entry w loamscarf_loudest_band.ended loamscarf_loudest_band.clauses
+  pub c-near-nyquist : Entry w loamscarf_near_nyquist.ended loamscarf_near_nyquist.clauses
 
 -- The clauses that the demands and the listing's theorem stand on. a .0 is the first argument of a call, a .1 .0 the second, and so on; x .0 is the return, and
 -- x .1 holds, in the arguments' places, what the slices lent for writing hold at exit.
@@ -369,6 +379,8 @@ pub record Cited (w : World) : Type 2 where
       ≡ synthesis.outcomeAt (a .0) (x .0) (x .1 .1 .0) (x .1 .1 .1 .1 .0))
   -- loudest: `loudest_band` gives `heard`
   pub loudest-band : Says w loudest_band.ended loudest_band.clauses (λ κs a x. x .0 ≡ heard (a .0) (now (a .1 .0)))
+  -- near_nyquist: `near_nyquist` gives `asked`
+  pub near-nyquist : Says w near_nyquist.ended near_nyquist.clauses (λ κs a x. x .0 ≡ asked (a .0) (now (a .1 .0)))
   -- listing: `open` gives `opening`, `step` gives `step`
   pub opened : Says w open.ended open.clauses (λ κs a x. x .0 ≡ steps.opening (now (a .0)))
   pub step : Says w step.ended step.clauses (λ κs a x. x .0 ≡ steps.step (a .0) (now (a .1 .0)))

@@ -3,6 +3,7 @@ pub mod AnalysisChannel
 pub mod SynthesisChannel
 pub mod Facts
 pub mod Loudest
+pub mod Sooner
 pub mod Entries
 pub mod Flags
 pub mod Papers

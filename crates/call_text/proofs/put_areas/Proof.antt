@@ -51,15 +51,20 @@ returns-7 c =
 
 returns-8 : tie.Need-returns-8
 returns-8 c =
+    let a = c .before .before .before .before .before .before .before .before .before .before .args in
+    c .before .before .put-decimals .ensures ∙ of-kind (page (a .out .now) (a .at)) (a .x .now) (a .y .now) (a .z .now) (c .before .before .before .before .before .match .keys8)
+
+returns-9 : tie.Need-returns-9
+returns-9 c =
     let a = c .before .before .before .before .before .args in
     let r = c .match .rest in
     let k = a .kind in
-    simp (ne-eqb k 2 (r .0 .0 .0 .0 .0 .0 .1), ne-eqb k 4 (r .0 .0 .0 .0 .0 .1), ne-eqb k 5 (r .0 .0 .0 .0 .1), ne-eqb k 6 (r .0 .0 .0 .1), ne-eqb k 7 (r .0 .0 .1), ne-eqb k 11 (r .0 .1), ne-eqb k 12 (r .1)) (nothing (page (a .out .now) (a .at)))
+    simp (ne-eqb k 2 (r .0 .0 .0 .0 .0 .0 .0 .1), ne-eqb k 4 (r .0 .0 .0 .0 .0 .0 .1), ne-eqb k 5 (r .0 .0 .0 .0 .0 .1), ne-eqb k 6 (r .0 .0 .0 .0 .1), ne-eqb k 7 (r .0 .0 .0 .1), ne-eqb k 11 (r .0 .0 .1), ne-eqb k 12 (r .0 .1), ne-eqb k 14 (r .1)) (nothing (page (a .out .now) (a .at)))
 
 -- the needs without a name, for any answer: a wrong one hides none of them
-safe : tie.Need-returns → tie.Need-returns-2 → tie.Need-returns-3 → tie.Need-returns-4 → tie.Need-returns-5 → tie.Need-returns-6 → tie.Need-returns-7 → tie.Need-returns-8
+safe : tie.Need-returns → tie.Need-returns-2 → tie.Need-returns-3 → tie.Need-returns-4 → tie.Need-returns-5 → tie.Need-returns-6 → tie.Need-returns-7 → tie.Need-returns-8 → tie.Need-returns-9
     → {M : Type 1} → statement M
-safe returns returns-2 returns-3 returns-4 returns-5 returns-6 returns-7 returns-8 =
+safe returns returns-2 returns-3 returns-4 returns-5 returns-6 returns-7 returns-8 returns-9 =
     tie.close
     (tie.spec
     (λ c κs. search needs)
@@ -75,6 +80,8 @@ safe returns returns-2 returns-3 returns-4 returns-5 returns-6 returns-7 returns
     (λ c κs. search needs)
     (λ c κs. search needs)
     (λ c. search needs)
+    (λ c κs. search needs)
+    (λ c. search needs)
     returns
     (λ c. search needs)
     returns-2
@@ -88,7 +95,9 @@ safe returns returns-2 returns-3 returns-4 returns-5 returns-6 returns-7 returns
     returns-6
     (λ c. search needs)
     returns-7
-    returns-8)
+    (λ c. search needs)
+    returns-8
+    returns-9)
 
 pub put-areas-spec : {M : Type 1} → statement M
-put-areas-spec = safe returns returns-2 returns-3 returns-4 returns-5 returns-6 returns-7 returns-8
+put-areas-spec = safe returns returns-2 returns-3 returns-4 returns-5 returns-6 returns-7 returns-8 returns-9

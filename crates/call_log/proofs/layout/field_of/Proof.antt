@@ -16,7 +16,7 @@ returns : tie.Need-returns
 unfolding fieldOf rows
 returns c =
     let a = c .before .args in
-    let h : 78 ≤ 6 * a .kind + a .i = omega arith in
+    let h : 90 ≤ 6 * a .kind + a .i = omega arith in
     sym (List·getD-eq-default rows Unknown h)
 
 rows-requires : tie.Need-rows-requires
@@ -38,7 +38,7 @@ returns-2 : tie.Need-returns-2
 unfolding fieldOf rows
 returns-2 c =
     let a = c .before .before .before .args in
-    let h : 6 * a .kind + a .i < 78 = omega arith in
+    let h : 6 * a .kind + a .i < 90 = omega arith in
     ap (λ (l : List Field). getD l (6 * a .kind + a .i) Nothing) (c .before .rows .ensures) ∙ getD-any rows (6 * a .kind + a .i) Nothing Unknown h
 
 pub field-of-spec : {M : Type 1} → statement M

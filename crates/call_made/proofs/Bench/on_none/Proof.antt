@@ -34,16 +34,24 @@ returns-4 c =
 returns-5 : tie.Need-returns-5
 unfolding onNone
 returns-5 c =
+    let a = c .before .before .before .before .args in
+    c .answered5 .ensures ∙ ap (withAnswer (a .self)) (c .before .ask .ensures) ∙ ap (λ (k : ℕ). onNone (a .self) k (a .b .now)) (sym (c .before .before .match .keys5))
+
+returns-6 : tie.Need-returns-6
+unfolding onNone
+returns-6 c =
     let a = c .before .before .args in
     let r = c .match .rest in
     let k = a .kind in
-    simp (ne-eqb k 5 (r .0 .0 .0 .1), ne-eqb k 6 (r .0 .0 .1), ne-eqb k 7 (r .0 .1), ne-eqb k 12 (r .1)) refl
+    simp (ne-eqb k 5 (r .0 .0 .0 .0 .1), ne-eqb k 6 (r .0 .0 .0 .1), ne-eqb k 7 (r .0 .0 .1), ne-eqb k 12 (r .0 .1), ne-eqb k 14 (r .1)) refl
 
 -- the needs without a name, for any answer: a wrong one hides none of them
-safe : tie.Need-returns → tie.Need-returns-2 → tie.Need-returns-3 → tie.Need-returns-4 → tie.Need-returns-5 → {M : Type 1} → statement M
-safe returns returns-2 returns-3 returns-4 returns-5 =
+safe : tie.Need-returns → tie.Need-returns-2 → tie.Need-returns-3 → tie.Need-returns-4 → tie.Need-returns-5 → tie.Need-returns-6 → {M : Type 1} → statement M
+safe returns returns-2 returns-3 returns-4 returns-5 returns-6 =
     tie.close
     (tie.spec
+    (λ c κs. search needs)
+    (λ c κs. search needs)
     (λ c κs. search needs)
     (λ c κs. search needs)
     (λ c κs. search needs)
@@ -56,7 +64,8 @@ safe returns returns-2 returns-3 returns-4 returns-5 =
     returns-2
     returns-3
     returns-4
-    returns-5)
+    returns-5
+    returns-6)
 
 pub on-none-spec : {M : Type 1} → statement M
-on-none-spec = safe returns returns-2 returns-3 returns-4 returns-5
+on-none-spec = safe returns returns-2 returns-3 returns-4 returns-5 returns-6
