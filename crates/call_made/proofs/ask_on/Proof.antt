@@ -12,7 +12,7 @@ use Rattle.call_made.proofs.ask_on.Tie as tie
 returns : tie.Need-returns
 unfolding askOn
 returns c =
-    let f = c .before .before .before .before .before .before .before in
+    let f = c .before .before .before .before .before .before in
     let read = f .floats .ensures ∙ (λ j. tab (length (f .before .before .before .before .before .args .energies .now)) (floatOf (f .before .before .rest .ensures j))) in (
       c .asked-as .ensures ∙ ap askedAs (c .before .near-nyquist .ensures ∙ (λ j. asked (c .before .before .before .byte-at .ensures j) (read j))),
       read,

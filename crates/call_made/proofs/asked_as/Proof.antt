@@ -9,8 +9,8 @@ use Rattle.call_made.proofs.asked_as.Tie as tie
 
 returns : tie.Need-returns
 returns c =
-    let a = c .before .before .before .before .args .a in
-    c .with-peaks .ensures ∙ (λ j. withPeaks (a .number) (a .index) (Flag (a .answer)) (c .before .area .ensures .0 j) 0 (set (c .before .before .before .peaks .ensures .0 j) 0 (a .read)) 1)
+    let a = c .before .before .before .args .a in
+    c .with-peaks .ensures ∙ (λ j. withPeaks (a .number) (a .index) (Flag (a .answer)) (c .before .area .ensures .0 j) 0 (set (c .before .before .peaks .ensures .0 j) 0 (a .read)) 1)
 
 pub asked-as-spec : {M : Type 1} → statement M
 asked-as-spec =
