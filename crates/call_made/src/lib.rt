@@ -404,7 +404,15 @@ fn asked_as(a: Asked) -> Answer
 {
     let mut z = call_log::peaks();
     z[0] = a.read;
-    with_peaks(a.number, a.index, Extra::Flag(a.answer), call_log::area(), 0, z, 1)
+    with_peaks(
+        a.number,
+        a.index,
+        Extra::Flag(a.answer),
+        call_log::area(),
+        0,
+        z,
+        1,
+    )
 }
 
 // 9: set of the analysis channel.

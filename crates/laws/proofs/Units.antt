@@ -28,7 +28,7 @@ fitting s (suc m) e p t =
     record {
       small = ltb→lt (suc m) (2 ^ 24) (and-r a b (and-l (a && b) c (and-l (a && b && c) d t)));
       deep = leb→le (down e) (2 ^ 149) (and-r (a && b) c (and-l (a && b && c) d t));
-      under = ltb→lt (suc m * up e) (2 ^ 128 * down e) (and-r (a && b && c) d t)
+      under = ltb→lt (suc m * up e) (2 ^ 128 * down e) (and-r (a && b && c) d t);
     }
 
 pow-le-back : (i j : ℕ) → 2 ^ i ≤ 2 ^ j → i ≤ j

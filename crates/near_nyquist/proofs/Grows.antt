@@ -53,7 +53,7 @@ rounded m e D b P t =
     let p = round-plus binary32 (a + b) c in
     record {
       plus = p;
-      keeps = not-under m e D (round binary32 false a c) _ P (own m e D P t) p (round-mono binary32 a c (a + b) c C C (mul-le-mul-right c (le-add-right a b)))
+      keeps = not-under m e D (round binary32 false a c) _ P (own m e D P t) p (round-mono binary32 a c (a + b) c C C (mul-le-mul-right c (le-add-right a b)));
     }
 
 -- with a -0.0
@@ -63,6 +63,7 @@ less-none a b c e = ⊎-elim (λ t. absurd (none (ltb→lt a b (holds t)))) (λ 
   where
     none : a < b → ⊥
     none h = omega arith
+
     all : a - b ≡ a + 0
     all = omega arith
 

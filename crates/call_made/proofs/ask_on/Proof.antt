@@ -18,8 +18,9 @@ returns c =
       read,
     )
 
-pub ask-on-spec : {M : Type 1} → statement M
-ask-on-spec =
+-- the needs without a name, for any answer: a wrong one hides none of them
+safe : tie.Need-returns → {M : Type 1} → statement M
+safe returns =
     tie.close
     (tie.spec
     (λ c κs. search needs)
@@ -29,3 +30,6 @@ ask-on-spec =
     (λ c κs. search needs)
     (λ c. search needs)
     returns)
+
+pub ask-on-spec : {M : Type 1} → statement M
+ask-on-spec = safe returns

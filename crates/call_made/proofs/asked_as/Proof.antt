@@ -12,8 +12,9 @@ returns c =
     let a = c .before .before .before .args .a in
     c .with-peaks .ensures ∙ (λ j. withPeaks (a .number) (a .index) (Flag (a .answer)) (c .before .area .ensures .0 j) 0 (set (c .before .before .peaks .ensures .0 j) 0 (a .read)) 1)
 
-pub asked-as-spec : {M : Type 1} → statement M
-asked-as-spec =
+-- the needs without a name, for any answer: a wrong one hides none of them
+safe : tie.Need-returns → {M : Type 1} → statement M
+safe returns =
     tie.close
     (tie.spec
     (λ c κs. search needs)
@@ -21,3 +22,6 @@ asked-as-spec =
     (λ c κs. search needs)
     (λ c κs. search needs)
     returns)
+
+pub asked-as-spec : {M : Type 1} → statement M
+asked-as-spec = safe returns
