@@ -9,7 +9,7 @@ Answer = namedtuple('Answer', 'kind number index extra areas')
 Difference = namedtuple('Difference', 'call area place ours rust apart')
 HEAD = re.compile(r'(\d+) (\d+) (\d+) (\d+) (\S+)')
 LAST = re.compile(r'(end|stopped|refused) (\d+)')
-EXTRAS = {2: 'flag', 7: 'band', 12: 'flag'}
+EXTRAS = {2: 'flag', 7: 'band', 12: 'flag', 14: 'answer'}
 NONE = '-'
 
 

@@ -93,3 +93,8 @@ def transform(frame, lines):
 
 def measure(config, lines, energies, peaks):
     return bytes([12, config]) + floats(lines) + struct.pack('<HH', energies, peaks)
+
+
+def near_nyquist(config, energies):
+    """The flag, sooner."""
+    return bytes([14, config]) + floats(energies)

@@ -1,5 +1,5 @@
-"""The measurement call of document 02 §5 and §12 and the loudest band of its §2, from the papers' text alone: their refusals in their order, and every operation
-rounded once to f32. And what a frame to lines answers, measured or not, but for the lines themselves.
+"""The measurement call of document 02 §5 and §12, the loudest band of its §2 and the flag, sooner, of its §7, from the papers' text alone: their refusals in
+their order, and every operation rounded once to f32. And what a frame to lines answers, measured or not, but for the lines themselves.
 
 f64 holds a product of two f32, and of their quotient and sum enough that rounding twice is rounding once."""
 import math
@@ -25,12 +25,17 @@ def rounded(x):
         return math.copysign(math.inf, x)
 
 
-def total(values):
-    """Their sum, added one after the other."""
+def running(values):
+    """Their sum after each of them, added one after the other."""
     sum_so_far = 0.0
     for x in values:
         sum_so_far = rounded(sum_so_far + x)
-    return sum_so_far
+        yield sum_so_far
+
+
+def total(values):
+    """Their sum, added one after the other."""
+    return [0.0, *running(values)][-1]
 
 
 def bands(config):
@@ -48,9 +53,14 @@ def peaks(config, lines):
     return [max(range(low, high), key=lambda place: rounded(lines[place] * lines[place])) for low, high in bands(config)]
 
 
+def first_upper(config):
+    """The first band that the flag counts as upper."""
+    return lmc.NB[config] - lmc.UPPER[config]
+
+
 def near_nyquist(config, found):
     """Whether the energies of the upper bands are above 30.0 times those of the lower ones; never at 48 kHz."""
-    first = lmc.NB[config] - lmc.UPPER[config]
+    first = first_upper(config)
     return lmc.RATE[config] <= 32000 and total(found[first:]) > rounded(30.0 * total(found[:first]))
 
 
@@ -88,7 +98,7 @@ def answer(config, patterns, room, peak_room):
 
 
 def given(call):
-    """What the bytes of a call of kind 7 or 12 begin with: the configuration, and the values by their bits."""
+    """What the bytes of a call of kind 7, 12 or 14 begin with: the configuration, and the values by their bits."""
     config, count = struct.unpack_from('<BH', call, 1)
     return config, struct.unpack_from(f'<{count}I', call, 4)
 
@@ -125,8 +135,8 @@ def of_frame(config, call, lines):
     return measured._replace(kind=kind, areas=[('lines', lines), *measured.areas])
 
 
-def loudest_refusal(config, patterns):
-    """The number and the index of energies by their bits, of which the loudest is asked for."""
+def energies_refusal(config, patterns):
+    """The number and the index of energies by their bits, of which the loudest is asked for, or the flag."""
     if config >= len(lmc.NF):
         return 1, 0
     if len(patterns) != lmc.NB[config]:
@@ -142,7 +152,7 @@ def products(config, found):
 
 def loudest(config, patterns):
     """What the loudest band answers of energies by their bits: of equals the first, and none where all are zeros."""
-    number, index = loudest_refusal(config, patterns)
+    number, index = energies_refusal(config, patterns)
     if number or not set(patterns) - {0, MINUS_ZERO}:
         return answers.Answer(7, number, index, '-', [])
     ranked = products(config, map(value, patterns))
@@ -153,3 +163,28 @@ def loudest(config, patterns):
 def loudest_of_call(call):
     """What a call of kind 7 answers."""
     return loudest(*given(call))
+
+
+def walked(config, found):
+    """Whether the running sum of the upper bands comes above 30.0 times the sum of the lower ones, and how many bands are read up to the first where it does: all
+    where it never does, and none at 48 kHz."""
+    if lmc.RATE[config] > 32000:
+        return False, 0
+    first = first_upper(config)
+    most = rounded(30.0 * total(found[:first]))
+    for band, upper in enumerate(running(found[first:]), first):
+        if upper > most:
+            return True, band + 1
+    return False, lmc.NB[config]
+
+
+def sooner(config, patterns):
+    """What the flag, sooner, answers of energies by their bits."""
+    number, index = energies_refusal(config, patterns)
+    above, read = (False, 0) if number else walked(config, [value(pattern) for pattern in patterns])
+    return answers.Answer(14, number, index, str(int(above)), [('read', [str(read)])])
+
+
+def sooner_of_call(call):
+    """What a call of kind 14 answers."""
+    return sooner(*given(call))

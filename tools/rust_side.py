@@ -1,5 +1,5 @@
 """lc3-codec's own sources, compiled unchanged by plain rustc with a main program of ours; and a copy of them with the short frames (short_copy.py).
-Behind the encoder's file, in one module with it, stands a function that calls its measurement alone.
+Behind the encoder's file, in one module with it, stand a function that calls its measurement alone, and one that calls the flag alone.
 
 The folder of the sources is RUST_SRC, by default ../shared/docs/src beside the repository: the crate's own folder or one with its seven files.
 Where it has no mdct_windows.rs, one is made from data/windows.txt. The copy is made anew at every build, in the room of the program."""
@@ -24,7 +24,8 @@ MODULES = {
 BEHIND = {
     ('encoder', 'modified_dct'): (
         "impl<'a> ModDiscreteCosTrans<'a> { pub fn measure(&self, lines: &[Scaler], energies: &mut [Scaler]) -> bool "
-        '{ self.apply_energy_estimation(lines, energies); self.is_near_nyquist(energies) } }'
+        '{ self.apply_energy_estimation(lines, energies); self.is_near_nyquist(energies) } '
+        'pub fn flag(&self, energies: &[Scaler]) -> bool { self.is_near_nyquist(energies) } }'
     ),
 }
 

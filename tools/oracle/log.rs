@@ -21,6 +21,7 @@ pub enum Call {
     SetSynthesis(u8, Vec<f32>),
     Transform { input: Vec<i16>, lines: usize },
     Measure { config: u8, lines: Vec<f32>, energies: usize, peaks: usize },
+    NearNyquist { config: u8, energies: Vec<f32> },
 }
 
 /// What is left of the log.
@@ -105,6 +106,7 @@ impl<'a> Log<'a> {
             10 => Call::SetSynthesis(self.byte()?, self.floats(ROOM)?),
             11 => Call::Transform { input: self.samples(MOST)?, lines: self.count(MOST)? },
             12 => Call::Measure { config: self.byte()?, lines: self.floats(MOST)?, energies: self.count(MOST)?, peaks: self.count(MOST)? },
+            14 => Call::NearNyquist { config: self.byte()?, energies: self.floats(MOST)? },
             _ => return None,
         };
         Some((kind, call))

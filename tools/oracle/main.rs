@@ -1,9 +1,10 @@
 //! The Rust's side of the bench: reads a log of calls on standard input, runs lc3-codec on each, and prints what it answers.
-//! Refusals, peaks, the loudest band and channels that came from no clear are decided here, from the paper's text.
+//! Refusals, peaks, the loudest band, how many bands are read for a flag and channels that came from no clear are decided here, from the paper's text.
 //! `crate::common`, `encoder`, `decoder` and `tables` are lc3-codec's own files, unchanged; the crate `short_frames` is their copy, which runs the
 //! configurations that lc3-codec does not have, and nothing else. A frame, measured or not, is lc3-codec's `run`, which does both at once; a measurement
-//! alone is the two functions that `run` measures with. lc3-codec has neither peaks nor a loudest band: both are searched for here, in bands of lc3-codec's
-//! own edges.
+//! alone is the two functions that `run` measures with, and the flag of energies is the second of these. lc3-codec has neither peaks nor a loudest band: both
+//! are searched for here, in bands of lc3-codec's own edges. Nor does it stop at a band: how many are read for a flag is searched for with its own flag, of the
+//! first bands' energies and zeros for the others.
 
 mod log;
 
@@ -33,12 +34,14 @@ mod short {
 trait Transforms {
     fn analyse(&self, time: &mut [i16], input: &[i16], lines: &mut [f32], energies: &mut [f32]) -> bool;
     fn measure(&self, lines: &[f32], energies: &mut [f32]) -> bool;
+    fn flag(&self, energies: &[f32]) -> bool;
     fn edges(&self) -> &'static [usize];
     fn buffer_length(&self) -> usize;
     fn synthesise(&self, buffer: &mut [f32], lines: &[f32], samples: &mut [f32]);
 }
 
 struct Config {
+    fs: usize,
     nf: usize,
     z: usize,
     ne: usize,
@@ -240,19 +243,34 @@ fn dct(length: usize, buffer: &mut [f32]) -> Verdict {
     ACCEPTED
 }
 
-/// The first band whose energy times its number of lines is greatest, and that product; none where all energies are zero.
-fn loudest(number: u8, energies: &[f32]) -> Result<Option<(usize, f32)>, Verdict> {
+/// The configuration of a question over energies that is not refused.
+fn answerable(number: u8, energies: &[f32]) -> Result<Config, Verdict> {
     let c = config(number).ok_or((1, 0))?;
     if energies.len() != c.nb {
         return Err((5, 0));
     }
-    if let Some(place) = first_failing(energies, passes_7) {
-        return Err((7, place));
+    match first_failing(energies, passes_7) {
+        Some(place) => Err((7, place)),
+        None => Ok(c),
     }
+}
+
+/// The first band whose energy times its number of lines is greatest, and that product; none where all energies are zero.
+fn loudest(number: u8, energies: &[f32]) -> Result<Option<(usize, f32)>, Verdict> {
+    let c = answerable(number, energies)?;
     let edges = c.transforms.edges();
     let product = |b: usize| energies[b] * (edges[b + 1] - edges[b]) as f32;
     let band = first_greatest(0, c.nb, product);
     Ok(energies.iter().any(|&e| e > 0.0).then(|| (band, product(band))))
+}
+
+/// lc3-codec's flag, and how many bands are read for it: the least number of first bands that set it, with zeros for the others, or all; above 32 kHz none.
+/// A zero added leaves a sum of energies as it is, so that such a flag is that of the running sum.
+fn near_nyquist(number: u8, energies: &[f32]) -> Result<(bool, usize), Verdict> {
+    let c = answerable(number, energies)?;
+    let set_by = |n: usize| c.transforms.flag(&[&energies[..n], &vec![0.0; c.nb - n]].concat());
+    let read = if c.fs > 32000 { 0 } else { (1..=c.nb).find(|&n| set_by(n)).unwrap_or(c.nb) };
+    Ok((c.transforms.flag(energies), read))
 }
 
 fn spelled(x: f32) -> String {
@@ -318,6 +336,12 @@ fn answer_loudest(config: u8, energies: &[f32]) -> Answer {
     }
 }
 
+fn answer_near_nyquist(config: u8, energies: &[f32]) -> Answer {
+    let told = near_nyquist(config, energies);
+    let read = told.map_or(0, |(_, read)| read);
+    Answer::flagged(told.map(|(flag, _)| flag), vec![decimals("read", &[read])])
+}
+
 fn answer_measure(config: u8, lines: &[f32], energies: usize, peaks: usize) -> Answer {
     let (mut energies, mut peaks) = (area(energies), peak_area(peaks));
     let told = measure(config, lines, &mut energies, &mut peaks);
@@ -377,6 +401,7 @@ impl Bench {
             Call::SetSynthesis(number, memory) => self.changed(true, |b| b.synthesis = Synthesis::set(number, padded(&memory, 0.0))),
             Call::Transform { input, lines } => self.transform(&input, lines),
             Call::Measure { config, lines, energies, peaks } => answer_measure(config, &lines, energies, peaks),
+            Call::NearNyquist { config, energies } => answer_near_nyquist(config, &energies),
         }
     }
 }

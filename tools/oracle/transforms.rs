@@ -8,7 +8,7 @@ use side::{decoder, encoder};
 
 pub fn config(number: u8) -> Option<Config> {
     let c = side::configs::config(number)?;
-    Some(Config { nf: c.nf, z: c.z, ne: c.ne, nb: c.nb, transforms: Box::new(c) })
+    Some(Config { fs: c.fs, nf: c.nf, z: c.z, ne: c.ne, nb: c.nb, transforms: Box::new(c) })
 }
 
 fn work(c: &Lc3Config) -> Vec<Complex> {
@@ -26,6 +26,12 @@ impl Transforms for Lc3Config {
         let (mut time, mut work) = (vec![0; 2 * self.nf], work(self));
         let (mdct, _, _) = encoder::modified_dct::ModDiscreteCosTrans::new(*self, &mut time, &mut work);
         mdct.measure(lines, energies)
+    }
+
+    fn flag(&self, energies: &[f32]) -> bool {
+        let (mut time, mut work) = (vec![0; 2 * self.nf], work(self));
+        let (mdct, _, _) = encoder::modified_dct::ModDiscreteCosTrans::new(*self, &mut time, &mut work);
+        mdct.flag(energies)
     }
 
     fn edges(&self) -> &'static [usize] {
