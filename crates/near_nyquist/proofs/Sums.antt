@@ -35,6 +35,10 @@ pub running-at : (es : List Float) (k : ℕ) → k < length es → getD (running
 unfolding running
 running-at es k h = getD-tab (length es) (λ k. total (take (k + 1) es)) nan k h
 
+-- what a search of them finds is no further than their end
+pub found-within : (p : Float → Bool) (l : List Float) {k : ℕ} → k ≡ first p (running l) → k ≤ length l
+found-within p l e = omega (arith, e, first-le p (running l), length-running l)
+
 -- the test of one that a loop has at hand: s is the sum of the first i + 1
 pub tested : (b : Float) (es : List Float) (i : ℕ) (s : Float) (t : Bool) → i < length es → s ≡ total (take (i + 1) es) → lt b s ≡ t → not (lt b (getD (running es) i nan)) ≡ not t
 tested b es i s t h e l = ap not (ap (lt b) (running-at es i h ∙ sym e) ∙ l)

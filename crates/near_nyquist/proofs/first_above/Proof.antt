@@ -1,5 +1,5 @@
 -- `near_nyquist::first_above` meets its contract. The invariant: the sum is that of the first i energies, and none up to it exceeds the bound. Assumes nothing.
-use mathlib.Core.Path.{_≡_, refl, sym, _∙_}
+use mathlib.Core.Path.{_≡_, refl, _∙_}
 use mathlib.Core.Bool.{true, false, not}
 use Prim.Native.Nat.{ℕ, _-_, _≤_, _<_}
 use native.Mathlib.Omega.{arith}

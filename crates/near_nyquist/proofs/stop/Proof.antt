@@ -2,7 +2,7 @@
 use mathlib.Core.Path.{_≡_, sym, ap, _∙_}
 use mathlib.Core.Bool.{not}
 use mathlib.Core.List.{List}
-use Prim.Native.Nat.{ℕ, _+_, _-_, _≤_}
+use Prim.Native.Nat.{ℕ, _+_, _-_}
 use native.Mathlib.Omega.{arith}
 use lib.ListN.{length, take, drop, length-drop}
 use lib.Seq.{length-take-le, take-all}
@@ -11,7 +11,7 @@ use borrow.Author.Needs.{needs}
 use Rattle.laws.specs.Lists.{first}
 use Rattle.measurement_steps.specs.Energy.{total}
 use Rattle.near_nyquist.specs.Sooner.{running, stop}
-use Rattle.near_nyquist.proofs.Sums.{stop-to}
+use Rattle.near_nyquist.proofs.Sums.{found-within}
 use Rattle.near_nyquist.proofs.stop.Statement.{statement}
 use Rattle.near_nyquist.proofs.stop.Tie as tie
 
@@ -47,8 +47,10 @@ first-above-requires c κs = search needs
 add-result : tie.Need-add-result
 add-result c =
     let s = c .before .before .before .before .before in
-    let e = found (s .args .split) (s .args .energies .now) (c .before .before .total .ensures) (c .first-above .ensures) in
-    omega (arith, e, stop-to (s .args .split) (s .args .energies .now) (s .pre))
+    let n = length (s .args .energies .now) - s .args .split in
+    let rest = drop (s .args .split) (s .args .energies .now) in
+    let e : length (take n rest) ≡ n = length-take-le n rest (omega (arith, length-drop (s .args .split) (s .args .energies .now))) in
+    omega (arith, found-within _ (take n rest) (c .first-above .ensures), e, s .pre)
 
 returns : tie.Need-returns
 returns c =
