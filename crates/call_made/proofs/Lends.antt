@@ -21,6 +21,10 @@ lends {most} made e counted =
     let n-is = counted .0 ∙ (λ j. min (short (e j)) (sym (made .1) j)) in
     record { new = made .0; asked = n-is; long = sym (counted .1 .1) ∙ n-is }
 
+-- what is answered of values read into the lent places is answered of as many as the count asks for
+pub read-of : {A R : Type 0} {most n : ℕ} {fresh room : List A} {l : List ℕ} {r : R} (f : List A → R) (g : ℕ → A) → Lends most fresh l n room → r ≡ f (tab (length (take n room)) g) → r ≡ f (tab (min (short l) most) g)
+read-of f g u e = e ∙ ap (λ (k : ℕ). f (tab k g)) (u .long)
+
 -- the room with the lent places read into, and the rest of it as it was
 pub filled : {A : Type 0} {most n : ℕ} {fresh room last : List A} {l read : List ℕ} (f : List ℕ → ℕ → A) →
     Lends most fresh l n room → read ≡ l → last ≡ tab (length (take n room)) (f read) →

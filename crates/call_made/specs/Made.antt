@@ -162,7 +162,7 @@ loudestOn c x = let h = heard c x in told h (h .loudest)
 abbrev pub loudest : List ℕ → Answer
 loudest b = loudestOn (getD b 1 0) (floats (drop 2 b))
 
--- 14: the place is the number of bands read
+-- 14: "EXTRA the answer 0 or 1, then always a line `read N`", whose place is the number of bands read
 abbrev pub askedAs : Asked → Answer
 askedAs a = withPeaks (a .number) (a .index) (Flag (a .answer)) area 0 (set peaks 0 (a .read)) 1
 

@@ -11,7 +11,7 @@ use call_text::Extra;
 use loudest::Loudest;
 use near_nyquist::Asked;
 
-// What a call answers: the numbers of its first line, and its output areas, m places of x, n of y and o of the peaks z.
+// What a call answers: the numbers of its first line, and its output areas, m places of x, n of y and o of z, which are peaks or the number of bands read.
 pub struct Answer {
     pub number: u8,
     pub index: usize,
@@ -93,7 +93,7 @@ fn one_area(number: u8, index: usize, extra: Extra, x: [f32; 1024], m: usize) ->
     with_peaks(number, index, extra, x, m, call_log::peaks(), 0)
 }
 
-// The same with peaks, o places of z.
+// The same with peaks, or bands read, o places of z.
 fn with_peaks(
     number: u8,
     index: usize,

@@ -1,14 +1,14 @@
 -- The code's comparisons say what `passes6` and `passes7` say. Assumes nothing.
 use mathlib.Core.Path.{_≡_, refl, sym, ap, _∙_, subst}
 use mathlib.Core.Logic.{_⊎_, inl, inr}
-use mathlib.Core.Bool.{Bool, true, false, not, _&&_, _||_}
+use mathlib.Core.Bool.{Bool, true, false, _&&_, _||_}
 use Prim.Native.Nat.{ℕ, _+_, _*_, _^_, _<_}
 use native.Mathlib.Nat.{le-of-eq, le-of-lt, add-comm, zero-mul, mul-one, mul-pos, eq-or-lt-of-le, eq-zero-or-pos}
 use native.Mathlib.Omega.{arith}
 use lib.IntN.{pos}
 use lib.Dec.{T, ltb, leb, eqb, eqb-refl, eqb→eq, leb→le, le→leb, ltb→lt, lt→ltb, leb·zero}
 use lib.Pow.{pow-pos}
-use lib.Ieee.{Float, nan, inf, fin, up, down, neg, lt, eq, le}
+use lib.Ieee.{Float, nan, inf, fin, up, down, neg, lt, le}
 use lib.Ieee.Fits.{up-pos, down-pos, and-l}
 use Rattle.laws.specs.Passes.{passes6, passes7}
 

@@ -25,7 +25,7 @@ bound split es = mul binary32 (ofBits binary32 0x41f00000) (total (take split es
 unfoldable pub stop : ℕ → List Float → ℕ
 stop split es = split + first (λ sum. not (lt (bound split es) sum)) (running (drop split es))
 
--- the running sum of the upper bands with which band b ends
+-- the running sum of the upper bands with band b as the last
 abbrev pub upperSum : ℕ → List Float → ℕ → Float
 upperSum split es b = total (take (b + 1 - split) (drop split es))
 

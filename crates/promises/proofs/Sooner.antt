@@ -3,7 +3,7 @@ use Prim.Native.Nat.{ℕ, _+_, _-_, _≤_, _<_}
 use native.Mathlib.Omega.{arith}
 use mathlib.Core.Path.{_≡_, refl, sym, ap, _∙_}
 use mathlib.Core.Logic.{⊎-elim}
-use mathlib.Core.Bool.{true, false, true≢false}
+use mathlib.Core.Bool.{Bool, true, false, true≢false}
 use mathlib.Core.List.{List}
 use lib.Dec.{T, ltb, leb, leb→le}
 use lib.ListN.{length, getD}
@@ -59,8 +59,11 @@ module _ (c : ℕ) (l : List Float) (p : Passed c l) where
       (λ s. let r = leb-false (rate c) 32000 s in f r (high r))
       (outcomes (leb (rate c) 32000))
 
-  taken : asked c l .number ≡ 0
-  taken = by-case (λ r e. ap (λ (a : Asked). a .number) e) (λ r h e. ap (λ (a : Asked). a .number) e) (λ r h e. ap (λ (a : Asked). a .number) e)
+  taken : (asked c l .number ≡ 0) × (asked c l .index ≡ 0)
+  taken = by-case (λ r e. both e) (λ r h e. both e) (λ r h e. both e)
+    where
+      both : {b : Bool} {n : ℕ} → asked c l ≡ told b n → (asked c l .number ≡ 0) × (asked c l .index ≡ 0)
+      both e = (ap (λ (a : Asked). a .number) e, ap (λ (a : Asked). a .index) e)
 
   -- the full flag, by the same cases
   full : rate c ≤ 32000 → flagOf c l ≡ ltb at (nb c)
@@ -120,7 +123,7 @@ sooner =
       yes = yes;
       no = no;
       high = high;
-      measured = λ c l v n a. let p = of-measurement c l v n a in (taken c (energiesOf c l) p, flag c (energiesOf c l) p);
+      measured = λ c l v n a. let p = of-measurement c l v n a in (taken c (energiesOf c l) p .0, flag c (energiesOf c l) p);
       no-config = λ c l v. rw (lt-leb c largest v);
       bad-energies = λ c l v n. rw (le-leb c largest v, ne-eqb (length l) (nb c) n);
       bad-energy = λ c l v n i. rw (le-leb c largest v, eq-eqb (length l) (nb c) n, ne-eqb (first passes7 l) (length l) (λ e. omega arith));

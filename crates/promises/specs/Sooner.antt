@@ -49,7 +49,7 @@ bands a b w x y z = ofBits binary32 a ∷ replicate 58 zero32 ++ map (ofBits bin
 
 pub record Sooner : Type 0 where
   -- "Its yes or no equals the full flag for every set of energies that passes 7", at every configuration
-  pub taken : (c : ℕ) (l : List Float) → Passed c l → asked c l .number ≡ accepted
+  pub taken : (c : ℕ) (l : List Float) → Passed c l → (asked c l .number ≡ accepted) × (asked c l .index ≡ 0)
   pub flag : (c : ℕ) (l : List Float) → Passed c l → asked c l .answer ≡ flagOf c l
   -- Yes: it says one more than the number of the band that it stopped at, the first upper band with which the running sum exceeds
   pub yes : (c : ℕ) (l : List Float) → Passed c l → asked c l .answer ≡ true → Stopped c l (asked c l .read)
@@ -72,8 +72,8 @@ pub record Sooner : Type 0 where
   pub last : asked 1 (bands 0x3f800000 0 0x41800000 0 0 0x41800000) ≡ told true 64
   -- 30.0 in all, with the last: no. As many bands are read as where it stopped at the last
   pub never : asked 1 (bands 0x3f800000 0 0x41000000 0x41000000 0x41000000 0x40c00000) ≡ told false 64
-  -- zeros do not exceed zero, and the last lower band is no upper one
-  pub zeros : asked 1 (bands 0 0 0 0 0 0) ≡ told false 64
+  -- zeros of both signs do not exceed zero, and the last lower band is no upper one
+  pub zeros : asked 1 (bands 0x80000000 0 0x80000000 0 0 0x80000000) ≡ told false 64
   pub last-lower : asked 1 (bands 0 0x3f800000 0 0 0 0) ≡ told false 64
   -- 2^127 twice overflows above 30.0 · 2^123. A lower sum that overflows, and 30.0 · 2^124, are exceeded by nothing
   pub upper-overflow : asked 1 (bands 0x7d000000 0 0x7f000000 0x7f000000 0 0) ≡ told true 62
@@ -86,5 +86,5 @@ pub record Sooner : Type 0 where
   -- 1 before 5, 5 before 7: sixty NaNs at a configuration of 64 bands, at 48 kHz too, and 64 zeros at one of 60
   pub config-first : (l : List Float) → asked 20 l ≡ refusal badConfig 0
   pub length-first : asked 1 (replicate 60 nan) ≡ refusal badEnergies 0
-  pub sixty : asked 9 (replicate 60 zero32) ≡ refusal badEnergies 0
+  pub sixty : asked 9 (replicate 60 nan) ≡ refusal badEnergies 0
   pub sixty-four : asked 0 (replicate 64 zero32) ≡ refusal badEnergies 0

@@ -17,7 +17,7 @@ unfolding heard
 returns c =
     let a = c .before .before .before .before .args in
     let l = a .energies .now in
-    c .refused .ensures ∙ gives-1 refusal (told (loudest (a .config) l)) (a .config) l (c .before .before .valid .ensures) (c .before .if1 .taken)
+    c .refused .ensures ∙ gives-1 (a .config) l (c .before .before .valid .ensures) refusal (told (loudest (a .config) l)) (c .before .if1 .taken)
 
 nb-requires : tie.Need-nb-requires
 nb-requires c κs = search needs
@@ -30,7 +30,7 @@ unfolding heard
 returns-2 c =
     let a = c .before .before .before .before .before .before .args in
     let l = a .energies .now in
-    c .refused2 .ensures ∙ gives-5 refusal (told (loudest (a .config) l)) (a .config) l (c .before .before .before .before .valid .ensures) (c .before .before .before .if1 .left) (c .before .before .nb .ensures) (c .before .if2 .taken)
+    c .refused2 .ensures ∙ gives-5 (a .config) l (c .before .before .before .before .valid .ensures) refusal (told (loudest (a .config) l)) (c .before .before .before .if1 .left) (c .before .before .nb .ensures) (c .before .if2 .taken)
 
 first-failing-7-requires : tie.Need-first-failing-7-requires
 first-failing-7-requires c κs = search needs
@@ -44,13 +44,13 @@ returns-3 c =
     let a = c .before .before .before .before .before .before .before .before .args in
     let l = a .energies .now in
     let w = c .before .before .before .before in
-    c .refused3 .ensures ∙ gives-7 refusal (told (loudest (a .config) l)) (a .config) l (w .before .before .valid .ensures) (w .before .if1 .left) (w .nb .ensures) (c .before .before .before .if2 .left) (c .before .before .first-failing-7 .ensures) (c .before .if3 .taken)
+    c .refused3 .ensures ∙ gives-7 (a .config) l (w .before .before .valid .ensures) refusal (told (loudest (a .config) l)) (w .before .if1 .left) (w .nb .ensures) (c .before .before .before .if2 .left) (c .before .before .first-failing-7 .ensures) (c .before .if3 .taken)
 
 answer-requires : tie.Need-answer-requires
 answer-requires c κs =
     let a = c .before .before .before .before .before .before .before .args in
     let w = c .before .before .before in
-    passed refusal (told (loudest (a .config) (a .energies .now))) (a .config) (a .energies .now) (w .before .before .valid .ensures) (w .before .if1 .left) (w .nb .ensures) (c .before .before .if2 .left) (c .before .first-failing-7 .ensures) (c .if3 .left)
+    passed (a .config) (a .energies .now) (w .before .before .valid .ensures) (w .before .if1 .left) (w .nb .ensures) (c .before .before .if2 .left) (c .before .first-failing-7 .ensures) (c .if3 .left)
 
 returns-4 : tie.Need-returns-4
 unfolding heard
@@ -58,7 +58,7 @@ returns-4 c =
     let a = c .before .before .before .before .before .before .before .before .args in
     let l = a .energies .now in
     let w = c .before .before .before .before in
-    ap told (c .answer .ensures) ∙ gives-0 refusal (told (loudest (a .config) l)) (a .config) l (w .before .before .valid .ensures) (w .before .if1 .left) (w .nb .ensures) (c .before .before .before .if2 .left) (c .before .before .first-failing-7 .ensures) (c .before .if3 .left)
+    ap told (c .answer .ensures) ∙ gives-0 (a .config) l (w .before .before .valid .ensures) refusal (told (loudest (a .config) l)) (w .before .if1 .left) (w .nb .ensures) (c .before .before .before .if2 .left) (c .before .before .first-failing-7 .ensures) (c .before .if3 .left)
 
 pub loudest-band-spec : {M : Type 1} → statement M
 loudest-band-spec =
