@@ -71,7 +71,7 @@ unfolding total ofBits
 from-zero l a = summed zero32 l refl (unfold fits in tt) a
 
 -- what the first n of them exceed, all of them do
-pub goes-on : (b : Float) (n : ℕ) (l : List Float) → Plus b → n ≤ length l → Pass l → T (lt b (total (take n l))) → T (lt b (total l))
+goes-on : (b : Float) (n : ℕ) (l : List Float) → Plus b → n ≤ length l → Pass l → T (lt b (total (take n l))) → T (lt b (total l))
 unfolding total
 goes-on b n l q fit a h =
     let s = from-zero (take n l) (take-pass n l fit a) in
@@ -136,7 +136,7 @@ module _ (split : ℕ) (es : List Float) (fit : split ≤ length es) where
   unfolding stop
   stop-from = omega arith
 
-  pub stop-to : stop split es ≤ length es
+  stop-to : stop split es ≤ length es
   unfolding stop
   stop-to = omega (arith, first-le (under (bound split es)) (running (drop split es)), length-rest)
 

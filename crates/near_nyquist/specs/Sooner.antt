@@ -25,10 +25,6 @@ bound split es = mul binary32 (ofBits binary32 0x41f00000) (total (take split es
 unfoldable pub stop : ℕ → List Float → ℕ
 stop split es = split + first (λ sum. not (lt (bound split es) sum)) (running (drop split es))
 
--- the running sum of the upper bands with band b as the last
-abbrev pub upperSum : ℕ → List Float → ℕ → Float
-upperSum split es b = total (take (b + 1 - split) (drop split es))
-
 -- ---- the answer
 abbrev pub told : Bool → ℕ → Asked
 told answer read = record { number = accepted; index = 0; answer = answer; read = read }
@@ -51,3 +47,8 @@ asked c es =
     cond (not (valid c)) (refusal badConfig 0)
     (cond (not (eqb (length es) (nb c))) (refusal badEnergies 0)
     (cond (eqb (first passes7 es) (length es)) (answer c es) (refusal badEnergy (first passes7 es))))
+
+-- ---- for the promises
+-- the running sum of the upper bands with band b as the last
+abbrev pub upperSum : ℕ → List Float → ℕ → Float
+upperSum split es b = total (take (b + 1 - split) (drop split es))
