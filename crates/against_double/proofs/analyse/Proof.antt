@@ -51,19 +51,5 @@ returns c = search needs
 
 pub analyse-spec : {M : Type 1} → statement M
 analyse-spec =
-    tie.close
-    (tie.spec
-    samples-room-requires
-    floats-room-requires
-    floats-room-requires-2
-    places-room-requires
-    array-borrow-prefix-frame
-    slice-aggregate-analyse-in
-    array-borrow-prefix-lines
-    slice-aggregate-analyse-in-2
-    array-borrow-prefix-energies
-    slice-aggregate-analyse-in-3
-    array-borrow-prefix-peaks
-    slice-aggregate-analyse-in-4
-    analyse-in-requires
-    returns)
+    tie.close (tie.spec samples-room-requires floats-room-requires floats-room-requires-2 places-room-requires array-borrow-prefix-frame slice-aggregate-analyse-in array-borrow-prefix-lines
+    slice-aggregate-analyse-in-2 array-borrow-prefix-energies slice-aggregate-analyse-in-3 array-borrow-prefix-peaks slice-aggregate-analyse-in-4 analyse-in-requires returns)

@@ -38,15 +38,4 @@ returns c = tt
 
 pub configuration-spec : {M : Type 1} → statement M
 configuration-spec =
-    tie.close
-    (tie.spec
-    Inv-loop
-    μ-loop
-    clear-requires
-    clear-requires-2
-    loop-holds
-    step-requires
-    add-k
-    loop-less
-    loop-again
-    returns)
+    tie.close (tie.spec Inv-loop μ-loop clear-requires clear-requires-2 loop-holds step-requires add-k loop-less loop-again returns)

@@ -39,15 +39,4 @@ returns c = tt
 
 pub configurations-spec : {M : Type 1} → statement M
 configurations-spec =
-    tie.close
-    (tie.spec
-    Inv-loop
-    μ-loop
-    loop-holds
-    valid-requires
-    configuration-requires
-    report-requires
-    add-c
-    loop-less
-    loop-again
-    returns)
+    tie.close (tie.spec Inv-loop μ-loop loop-holds valid-requires configuration-requires report-requires add-c loop-less loop-again returns)

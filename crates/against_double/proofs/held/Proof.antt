@@ -26,11 +26,4 @@ returns c = search needs
 
 pub held-spec : {M : Type 1} → statement M
 held-spec =
-    tie.close
-    (tie.spec
-    buffer-requires
-    mul-n
-    array-borrow-prefix-buf
-    slice-aggregate-held-by
-    held-by-requires
-    returns)
+    tie.close (tie.spec buffer-requires mul-n array-borrow-prefix-buf slice-aggregate-held-by held-by-requires returns)

@@ -33,13 +33,4 @@ returns c = search needs
 
 pub play-spec : {M : Type 1} → statement M
 play-spec =
-    tie.close
-    (tie.spec
-    floats-room-requires
-    floats-room-requires-2
-    array-borrow-prefix-lines
-    slice-aggregate-play-in
-    array-borrow-prefix-samples
-    slice-aggregate-play-in-2
-    play-in-requires
-    returns)
+    tie.close (tie.spec floats-room-requires floats-room-requires-2 array-borrow-prefix-lines slice-aggregate-play-in array-borrow-prefix-samples slice-aggregate-play-in-2 play-in-requires returns)

@@ -32,13 +32,4 @@ returns c = search needs
 
 pub read-lines-spec : {M : Type 1} → statement M
 read-lines-spec =
-    tie.close
-    (tie.spec
-    buffer-requires
-    mul-n
-    add-n
-    array-borrow-prefix-buf
-    slice-aggregate-floats-by
-    floats-by-requires
-    same-length
-    returns)
+    tie.close (tie.spec buffer-requires mul-n add-n array-borrow-prefix-buf slice-aggregate-floats-by floats-by-requires same-length returns)

@@ -32,13 +32,4 @@ returns c = search needs
 
 pub read-samples-spec : {M : Type 1} → statement M
 read-samples-spec =
-    tie.close
-    (tie.spec
-    buffer-requires
-    mul-n
-    add-n
-    array-borrow-prefix-buf
-    slice-aggregate-samples-by
-    samples-by-requires
-    same-length
-    returns)
+    tie.close (tie.spec buffer-requires mul-n add-n array-borrow-prefix-buf slice-aggregate-samples-by samples-by-requires same-length returns)

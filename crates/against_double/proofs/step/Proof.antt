@@ -31,13 +31,4 @@ returns c = search needs
 
 pub step-spec : {M : Type 1} → statement M
 step-spec =
-    tie.close
-    (tie.spec
-    nf-requires
-    nb-requires
-    analyse-requires
-    ne-requires
-    nf-requires-2
-    play-requires
-    with-requires
-    returns)
+    tie.close (tie.spec nf-requires nb-requires analyse-requires ne-requires nf-requires-2 play-requires with-requires returns)

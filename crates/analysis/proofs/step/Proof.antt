@@ -56,17 +56,7 @@ returns c =
 -- the needs without a name, for any answer: a wrong one hides none of them
 safe : tie.Need-returns → {M : Type 1} → statement M
 safe returns =
-    tie.close
-    (tie.spec
-    (λ c κs. search needs)
-    sub-keep
-    slice-reshare-prefix-lines-of
-    slice-aggregate-lines-of
-    lines-of-requires
-    keep-requires
-    (λ c. search needs)
-    (λ c. search needs)
-    returns)
+    tie.close (tie.spec (λ c κs. search needs) sub-keep slice-reshare-prefix-lines-of slice-aggregate-lines-of lines-of-requires keep-requires (λ c. search needs) (λ c. search needs) returns)
 
 pub step-spec : {M : Type 1} → statement M
 step-spec = safe returns

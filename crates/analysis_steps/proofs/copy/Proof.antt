@@ -71,18 +71,4 @@ returns c =
 
 pub copy-spec : {M : Type 1} → statement M
 copy-spec =
-    tie.close
-    (tie.spec
-    Inv-loop
-    μ-loop
-    loop-holds
-    mul-dst
-    shared-slice-copy-out-dst
-    add-t9
-    mul-t10
-    slice-set-from-dst
-    add-i
-    loop-less
-    loop-again
-    same-length
-    returns)
+    tie.close (tie.spec Inv-loop μ-loop loop-holds mul-dst shared-slice-copy-out-dst add-t9 mul-t10 slice-set-from-dst add-i loop-less loop-again same-length returns)

@@ -77,20 +77,5 @@ returns c =
 
 pub fold-spec : {M : Type 1} → statement M
 fold-spec =
-    tie.close
-    (tie.spec
-    sub-z
-    mul-fold-low
-    sub-fold-low
-    part-fold-low-start
-    part-fold-low-end
-    slice-relend-prefix-fold-low
-    slice-aggregate-fold-low
-    fold-low-requires
-    mul-fold-high
-    sub-fold-high
-    part-fold-high-start
-    part-fold-high-end
-    fold-high-requires
-    same-length
-    returns)
+    tie.close (tie.spec sub-z mul-fold-low sub-fold-low part-fold-low-start part-fold-low-end slice-relend-prefix-fold-low slice-aggregate-fold-low fold-low-requires mul-fold-high sub-fold-high
+    part-fold-high-start part-fold-high-end fold-high-requires same-length returns)

@@ -57,20 +57,4 @@ returns c = filled-all (c .before .loop .inv .1) (omega arith)
 
 pub fold-frame-spec : {M : Type 1} → statement M
 fold-frame-spec =
-    tie.close
-    (tie.spec
-    Inv-loop
-    μ-loop
-    loop-holds
-    sub-weighed
-    sub-weighed-2
-    weighed-requires
-    add-weighed
-    weighed-requires-2
-    mul-out
-    slice-write-out
-    add-i
-    loop-less
-    loop-again
-    same-length
-    returns)
+    tie.close (tie.spec Inv-loop μ-loop loop-holds sub-weighed sub-weighed-2 weighed-requires add-weighed weighed-requires-2 mul-out slice-write-out add-i loop-less loop-again same-length returns)

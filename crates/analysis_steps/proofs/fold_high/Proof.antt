@@ -73,19 +73,5 @@ returns c =
 
 pub fold-high-spec : {M : Type 1} → statement M
 fold-high-spec =
-    tie.close
-    (tie.spec
-    mul-fold-past
-    sub-fold-past
-    part-fold-past-start
-    part-fold-past-end
-    slice-relend-prefix-fold-past
-    slice-aggregate-fold-past
-    fold-past-requires
-    mul-fold-past-2
-    sub-fold-past-2
-    part-fold-past-start-2
-    part-fold-past-end-2
-    fold-past-requires-2
-    same-length
-    returns)
+    tie.close (tie.spec mul-fold-past sub-fold-past part-fold-past-start part-fold-past-end slice-relend-prefix-fold-past slice-aggregate-fold-past fold-past-requires mul-fold-past-2 sub-fold-past-2
+    part-fold-past-start-2 part-fold-past-end-2 fold-past-requires-2 same-length returns)

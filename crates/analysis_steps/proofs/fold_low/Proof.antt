@@ -68,18 +68,5 @@ returns c =
 
 pub fold-low-spec : {M : Type 1} → statement M
 fold-low-spec =
-    tie.close
-    (tie.spec
-    sub-a
-    add-fold-frame
-    slice-relend-prefix-fold-frame
-    slice-aggregate-fold-frame
-    fold-frame-requires
-    mul-fold-zeros
-    mul-fold-zeros-2
-    sub-fold-zeros
-    part-fold-zeros-start
-    part-fold-zeros-end
-    fold-zeros-requires
-    same-length
-    returns)
+    tie.close (tie.spec sub-a add-fold-frame slice-relend-prefix-fold-frame slice-aggregate-fold-frame fold-frame-requires mul-fold-zeros mul-fold-zeros-2 sub-fold-zeros part-fold-zeros-start
+    part-fold-zeros-end fold-zeros-requires same-length returns)

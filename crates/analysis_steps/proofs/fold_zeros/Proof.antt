@@ -59,20 +59,4 @@ returns c = filled-all (c .before .loop .inv .1) (omega arith)
 
 pub fold-zeros-spec : {M : Type 1} → statement M
 fold-zeros-spec =
-    tie.close
-    (tie.spec
-    Inv-loop
-    μ-loop
-    loop-holds
-    sub-weighed
-    sub-weighed-2
-    weighed-requires
-    add-weight
-    weight-requires
-    mul-out
-    slice-write-out
-    add-i
-    loop-less
-    loop-again
-    same-length
-    returns)
+    tie.close (tie.spec Inv-loop μ-loop loop-holds sub-weighed sub-weighed-2 weighed-requires add-weight weight-requires mul-out slice-write-out add-i loop-less loop-again same-length returns)

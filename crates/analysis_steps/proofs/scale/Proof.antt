@@ -53,17 +53,4 @@ returns c = filled-all (c .before .loop .inv .1) (omega arith) ∙ tab-map (λ (
 
 pub scale-spec : {M : Type 1} → statement M
 scale-spec =
-    tie.close
-    (tie.spec
-    Inv-loop
-    μ-loop
-    loop-holds
-    mul-buf
-    slice-read-buf
-    mul-buf-2
-    slice-write-buf
-    add-i
-    loop-less
-    loop-again
-    same-length
-    returns)
+    tie.close (tie.spec Inv-loop μ-loop loop-holds mul-buf slice-read-buf mul-buf-2 slice-write-buf add-i loop-less loop-again same-length returns)

@@ -22,15 +22,5 @@ returns c =
 
 pub silence-spec : {M : Type 1} → statement M
 silence-spec =
-    tie.close
-    (tie.spec
-    Inv-loop
-    μ-loop
-    (λ c. (omega arith, filled-none _ _))
-    (λ c. search needs)
-    (λ c. search needs)
-    (λ c. search needs)
-    (λ c. search needs)
-    (λ c. (omega arith, filled-more _ (pos 0) (c .before .loop .inv .1) (omega arith) refl))
-    (λ c. search needs)
-    returns)
+    tie.close (tie.spec Inv-loop μ-loop (λ c. (omega arith, filled-none _ _)) (λ c. search needs) (λ c. search needs) (λ c. search needs) (λ c. search needs)
+    (λ c. (omega arith, filled-more _ (pos 0) (c .before .loop .inv .1) (omega arith) refl)) (λ c. search needs) returns)

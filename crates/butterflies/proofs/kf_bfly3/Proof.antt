@@ -100,27 +100,5 @@ returns c =
 
 pub kf-bfly3-spec : {M : Type 1} → statement M
 kf-bfly3-spec =
-    tie.close
-    (tie.spec
-    Inv-loop
-    μ-loop
-    Inv-loop2
-    μ-loop2
-    mul-get
-    sub-get
-    get-requires
-    loop-holds
-    mul-quad3
-    quad3-requires
-    add-q
-    loop-less
-    loop-again
-    mul-i
-    loop2-holds
-    turn3-requires
-    add-i
-    loop2-less
-    loop2-again
-    same-length
-    same-length-2
-    returns)
+    tie.close (tie.spec Inv-loop μ-loop Inv-loop2 μ-loop2 mul-get sub-get get-requires loop-holds mul-quad3 quad3-requires add-q loop-less loop-again mul-i loop2-holds turn3-requires add-i loop2-less
+    loop2-again same-length same-length-2 returns)

@@ -91,24 +91,5 @@ returns c =
 
 pub kf-bfly4-spec : {M : Type 1} → statement M
 kf-bfly4-spec =
-    tie.close
-    (tie.spec
-    Inv-loop
-    μ-loop
-    Inv-loop2
-    μ-loop2
-    loop-holds
-    mul-quad4
-    quad4-requires
-    add-q
-    loop-less
-    loop-again
-    mul-i
-    loop2-holds
-    turn4-requires
-    add-i
-    loop2-less
-    loop2-again
-    same-length
-    same-length-2
-    returns)
+    tie.close (tie.spec Inv-loop μ-loop Inv-loop2 μ-loop2 loop-holds mul-quad4 quad4-requires add-q loop-less loop-again mul-i loop2-holds turn4-requires add-i loop2-less loop2-again same-length
+    same-length-2 returns)

@@ -58,17 +58,5 @@ returns c =
 
 pub kf-bfly5-spec : {M : Type 1} → statement M
 kf-bfly5-spec =
-    tie.close
-    (tie.spec
-    shared-slice-read-turned5
-    get-requires
-    get-requires-2
-    turned5-requires
-    put-requires
-    put-requires-2
-    put-requires-3
-    put-requires-4
-    put-requires-5
-    same-length
-    same-length-2
+    tie.close (tie.spec shared-slice-read-turned5 get-requires get-requires-2 turned5-requires put-requires put-requires-2 put-requires-3 put-requires-4 put-requires-5 same-length same-length-2
     returns)

@@ -27,12 +27,4 @@ returns c = simp (c .five .ensures, c .before .mul4 .ensures, c .before .before 
 
 pub turned5-spec : {M : Type 1} → statement M
 turned5-spec =
-    tie.close
-    (tie.spec
-    new-requires
-    mul-requires
-    mul-requires-2
-    mul-requires-3
-    mul-requires-4
-    five-requires
-    returns)
+    tie.close (tie.spec new-requires mul-requires mul-requires-2 mul-requires-3 mul-requires-4 five-requires returns)

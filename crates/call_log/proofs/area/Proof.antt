@@ -45,16 +45,4 @@ returns c = area-all (c .before .loop .inv) (omega arith)
 
 pub area-spec : {M : Type 1} → statement M
 area-spec =
-    tie.close
-    (tie.spec
-    Inv-loop
-    μ-loop
-    zeros-requires
-    loop-holds
-    int-to-float-out
-    mul-out
-    array-write-out
-    add-i
-    loop-less
-    loop-again
-    returns)
+    tie.close (tie.spec Inv-loop μ-loop zeros-requires loop-holds int-to-float-out mul-out array-write-out add-i loop-less loop-again returns)

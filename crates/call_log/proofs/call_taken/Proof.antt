@@ -87,21 +87,5 @@ returns-2 c =
 
 pub call-taken-spec : {M : Type 1} → statement M
 call-taken-spec =
-    tie.close
-    (tie.spec
-    Inv-loop
-    μ-loop
-    byte-at-requires
-    cast-kind
-    loop-holds
-    rest-requires
-    field-of-requires
-    field-taken-requires
-    enum-known-n
-    enum-told
-    returns
-    add-k
-    add-i
-    loop-less
-    loop-again
+    tie.close (tie.spec Inv-loop μ-loop byte-at-requires cast-kind loop-holds rest-requires field-of-requires field-taken-requires enum-known-n enum-told returns add-k add-i loop-less loop-again
     returns-2)

@@ -98,29 +98,5 @@ returns-9 c = sym (ap (fieldTaken (c .before .before .before .args .b .now)) (c 
 
 pub field-taken-spec : {M : Type 1} → statement M
 field-taken-spec =
-    tie.close
-    (tie.spec
-    enum-told
-    enum-told-2
-    within-requires
-    enum-told-3
-    byte-at-requires
-    within-requires-2
-    enum-told-4
-    within-requires-3
-    enum-told-5
-    listed-requires
-    enum-known-field
-    listed-requires-2
-    enum-known-field-2
-    listed-requires-3
-    enum-told-6
-    returns
-    returns-2
-    returns-3
-    returns-4
-    returns-5
-    returns-6
-    returns-7
-    returns-8
-    returns-9)
+    tie.close (tie.spec enum-told enum-told-2 within-requires enum-told-3 byte-at-requires within-requires-2 enum-told-4 within-requires-3 enum-told-5 listed-requires enum-known-field
+    listed-requires-2 enum-known-field-2 listed-requires-3 enum-told-6 returns returns-2 returns-3 returns-4 returns-5 returns-6 returns-7 returns-8 returns-9)

@@ -59,20 +59,4 @@ returns c = filled-all (c .before .loop .inv .1) (omega arith)
 
 pub floats-spec : {M : Type 1} → statement M
 floats-spec =
-    tie.close
-    (tie.spec
-    Inv-loop
-    μ-loop
-    loop-holds
-    mul-rest
-    add-rest
-    rest-requires
-    word-requires
-    float-requires
-    mul-out
-    slice-write-out
-    add-i
-    loop-less
-    loop-again
-    same-length
-    returns)
+    tie.close (tie.spec Inv-loop μ-loop loop-holds mul-rest add-rest rest-requires word-requires float-requires mul-out slice-write-out add-i loop-less loop-again same-length returns)

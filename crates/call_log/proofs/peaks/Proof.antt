@@ -44,16 +44,4 @@ returns c = area-all (c .before .loop .inv) (omega arith)
 
 pub peaks-spec : {M : Type 1} → statement M
 peaks-spec =
-    tie.close
-    (tie.spec
-    Inv-loop
-    μ-loop
-    zero-places-requires
-    loop-holds
-    add-out
-    mul-out
-    array-write-out
-    add-i
-    loop-less
-    loop-again
-    returns)
+    tie.close (tie.spec Inv-loop μ-loop zero-places-requires loop-holds add-out mul-out array-write-out add-i loop-less loop-again returns)

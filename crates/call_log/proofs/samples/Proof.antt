@@ -62,20 +62,4 @@ returns c = filled-all (c .before .loop .inv .1) (omega arith)
 
 pub samples-spec : {M : Type 1} → statement M
 samples-spec =
-    tie.close
-    (tie.spec
-    Inv-loop
-    μ-loop
-    loop-holds
-    mul-rest
-    add-rest
-    rest-requires
-    short-requires
-    sample-requires
-    mul-t10
-    slice-set-from-out
-    add-i
-    loop-less
-    loop-again
-    same-length
-    returns)
+    tie.close (tie.spec Inv-loop μ-loop loop-holds mul-rest add-rest rest-requires short-requires sample-requires mul-t10 slice-set-from-out add-i loop-less loop-again same-length returns)

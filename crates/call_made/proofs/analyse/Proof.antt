@@ -19,15 +19,8 @@ returns c =
 -- the needs without a name, for any answer: a wrong one hides none of them
 safe : tie.Need-returns → {M : Type 1} → statement M
 safe returns =
-    tie.close
-    (tie.spec
-    (λ c κs. search needs)
-    (λ c κs. search needs)
-    (λ c κs. search needs)
-    (λ c κs. search needs)
-    (λ c κs. c .before .before .before .before .before .frame .ensures .1)
-    (λ c κs. search needs)
-    returns)
+    tie.close (tie.spec (λ c κs. search needs) (λ c κs. search needs) (λ c κs. search needs) (λ c κs. search needs) (λ c κs. c .before .before .before .before .before .frame .ensures .1)
+    (λ c κs. search needs) returns)
 
 pub analyse-spec : {M : Type 1} → statement M
 analyse-spec = safe returns

@@ -39,14 +39,4 @@ returns c =
 
 pub dct-spec : {M : Type 1} → statement M
 dct-spec =
-    tie.close
-    (tie.spec
-    area-requires
-    rest-requires
-    slice-aggregate-count-floats
-    count-floats-requires
-    array-borrow-prefix-x
-    slice-aggregate-dct-on
-    dct-on-requires
-    one-area-requires
-    returns)
+    tie.close (tie.spec area-requires rest-requires slice-aggregate-count-floats count-floats-requires array-borrow-prefix-x slice-aggregate-dct-on dct-on-requires one-area-requires returns)

@@ -81,25 +81,5 @@ returns c =
 
 pub fft-imag-spec : {M : Type 1} → statement M
 fft-imag-spec =
-    tie.close
-    (tie.spec
-    read-floats-requires
-    area-requires
-    area-requires-2
-    slice-aggregate-count-floats
-    count-floats-requires
-    rest-requires
-    slice-aggregate-count-floats-2
-    count-floats-requires-2
-    rest-requires-2
-    short-requires
-    cast-size
-    byte-at-requires
-    array-borrow-prefix-x
-    slice-aggregate-fft
-    array-borrow-prefix-y
-    slice-aggregate-fft-2
-    fft-requires
-    peaks-requires
-    same-length
-    returns)
+    tie.close (tie.spec read-floats-requires area-requires area-requires-2 slice-aggregate-count-floats count-floats-requires rest-requires slice-aggregate-count-floats-2 count-floats-requires-2
+    rest-requires-2 short-requires cast-size byte-at-requires array-borrow-prefix-x slice-aggregate-fft array-borrow-prefix-y slice-aggregate-fft-2 fft-requires peaks-requires same-length returns)

@@ -39,13 +39,4 @@ returns c =
 
 pub frame-spec : {M : Type 1} → statement M
 frame-spec =
-    tie.close
-    (tie.spec
-    rest-requires
-    samples-room-requires
-    slice-aggregate-count-samples
-    count-samples-requires
-    array-borrow-prefix-room
-    slice-aggregate-frame-on
-    frame-on-requires
-    returns)
+    tie.close (tie.spec rest-requires samples-room-requires slice-aggregate-count-samples count-samples-requires array-borrow-prefix-room slice-aggregate-frame-on frame-on-requires returns)

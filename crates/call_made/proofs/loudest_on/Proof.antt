@@ -75,19 +75,5 @@ returns-2 c =
 
 pub loudest-on-spec : {M : Type 1} → statement M
 loudest-on-spec =
-    tie.close
-    (tie.spec
-    rest-requires
-    floats-requires
-    byte-at-requires
-    loudest-band-requires
-    area-requires
-    enum-known-found
-    enum-told
-    one-area-requires
-    same-length
-    returns
-    array-write-x
-    one-area-requires-2
-    same-length-2
-    returns-2)
+    tie.close (tie.spec rest-requires floats-requires byte-at-requires loudest-band-requires area-requires enum-known-found enum-told one-area-requires same-length returns array-write-x
+    one-area-requires-2 same-length-2 returns-2)

@@ -42,15 +42,5 @@ returns c =
 
 pub play-on-spec : {M : Type 1} → statement M
 play-on-spec =
-    tie.close
-    (tie.spec
-    read-floats-requires
-    area-requires
-    slice-aggregate-count-floats
-    count-floats-requires
-    array-borrow-prefix-x
-    slice-aggregate-frame
-    frame-requires
-    one-area-requires
-    same-length
+    tie.close (tie.spec read-floats-requires area-requires slice-aggregate-count-floats count-floats-requires array-borrow-prefix-x slice-aggregate-frame frame-requires one-area-requires same-length
     returns)

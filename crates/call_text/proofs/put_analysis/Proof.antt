@@ -30,10 +30,4 @@ returns c =
 
 pub put-analysis-spec : {M : Type 1} → statement M
 put-analysis-spec =
-    tie.close
-    (tie.spec
-    slice-aggregate-put-worded
-    put-worded-requires
-    put-samples-requires
-    same-length
-    returns)
+    tie.close (tie.spec slice-aggregate-put-worded put-worded-requires put-samples-requires same-length returns)

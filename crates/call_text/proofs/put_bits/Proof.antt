@@ -29,11 +29,4 @@ returns c =
 
 pub put-bits-spec : {M : Type 1} → statement M
 put-bits-spec =
-    tie.close
-    (tie.spec
-    hex-requires
-    array-share-prefix-room
-    slice-aggregate-put-bytes
-    put-bytes-requires
-    same-length
-    returns)
+    tie.close (tie.spec hex-requires array-share-prefix-room slice-aggregate-put-bytes put-bytes-requires same-length returns)

@@ -13,9 +13,4 @@ returns c =
 
 pub put-channels-spec : {M : Type 1} → statement M
 put-channels-spec =
-    tie.close
-    (tie.spec
-    (λ c κs. search needs)
-    (λ c κs. search needs)
-    (λ c. search needs)
-    returns)
+    tie.close (tie.spec (λ c κs. search needs) (λ c κs. search needs) (λ c. search needs) returns)

@@ -29,11 +29,4 @@ returns c =
 
 pub put-decimal-spec : {M : Type 1} → statement M
 put-decimal-spec =
-    tie.close
-    (tie.spec
-    decimal-requires
-    array-share-prefix-room
-    slice-aggregate-put-bytes
-    put-bytes-requires
-    same-length
-    returns)
+    tie.close (tie.spec decimal-requires array-share-prefix-room slice-aggregate-put-bytes put-bytes-requires same-length returns)

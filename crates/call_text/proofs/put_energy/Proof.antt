@@ -30,10 +30,4 @@ returns-2 c =
 
 pub put-energy-spec : {M : Type 1} → statement M
 put-energy-spec =
-    tie.close
-    (tie.spec
-    returns
-    (λ c. search needs)
-    (λ c κs. search needs)
-    (λ c. search needs)
-    returns-2)
+    tie.close (tie.spec returns (λ c. search needs) (λ c κs. search needs) (λ c. search needs) returns-2)

@@ -57,18 +57,4 @@ returns-3 c =
 
 pub put-extra-spec : {M : Type 1} → statement M
 put-extra-spec =
-    tie.close
-    (tie.spec
-    enum-told
-    put-requires
-    enum-known-e
-    digit-requires
-    put-requires-2
-    enum-known-e-2
-    put-decimal-requires
-    same-length
-    returns
-    same-length-2
-    returns-2
-    same-length-3
-    returns-3)
+    tie.close (tie.spec enum-told put-requires enum-known-e digit-requires put-requires-2 enum-known-e-2 put-decimal-requires same-length returns same-length-2 returns-2 same-length-3 returns-3)

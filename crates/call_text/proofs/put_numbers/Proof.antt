@@ -33,11 +33,4 @@ returns c =
 
 pub put-numbers-spec : {M : Type 1} → statement M
 put-numbers-spec =
-    tie.close
-    (tie.spec
-    put-decimal-requires
-    slice-aggregate-put-worded
-    put-worded-requires
-    put-requires
-    same-length
-    returns)
+    tie.close (tie.spec put-decimal-requires slice-aggregate-put-worded put-worded-requires put-requires same-length returns)

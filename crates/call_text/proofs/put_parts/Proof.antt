@@ -33,17 +33,8 @@ returns c =
 -- the needs without a name, for any answer: a wrong one hides none of them
 safe : tie.Need-returns → {M : Type 1} → statement M
 safe returns =
-    tie.close
-    (tie.spec
-    (λ c κs. search needs)
-    (λ c κs. search needs)
-    (λ c κs. search needs)
-    (λ c. as-long _ _ _ (c .before .before .before .before .part .ensures))
-    (λ c. as-long _ _ _ (c .before .before .before .before .part2 .ensures))
-    (λ c. as-long _ _ _ (c .before .before .before .before .part3 .ensures))
-    (λ c κs. search needs)
-    (λ c. search needs)
-    returns)
+    tie.close (tie.spec (λ c κs. search needs) (λ c κs. search needs) (λ c κs. search needs) (λ c. as-long _ _ _ (c .before .before .before .before .part .ensures))
+    (λ c. as-long _ _ _ (c .before .before .before .before .part2 .ensures)) (λ c. as-long _ _ _ (c .before .before .before .before .part3 .ensures)) (λ c κs. search needs) (λ c. search needs) returns)
 
 pub put-parts-spec : {M : Type 1} → statement M
 put-parts-spec = safe returns

@@ -42,12 +42,4 @@ returns c =
 
 pub put-sample-spec : {M : Type 1} → statement M
 put-sample-spec =
-    tie.close
-    (tie.spec
-    put-requires
-    put-sign-requires
-    magnitude-requires
-    cast-put-decimal
-    put-decimal-requires
-    same-length
-    returns)
+    tie.close (tie.spec put-requires put-sign-requires magnitude-requires cast-put-decimal put-decimal-requires same-length returns)

@@ -30,10 +30,4 @@ returns c =
 
 pub put-synthesis-spec : {M : Type 1} → statement M
 put-synthesis-spec =
-    tie.close
-    (tie.spec
-    slice-aggregate-put-worded
-    put-worded-requires
-    put-values-requires
-    same-length
-    returns)
+    tie.close (tie.spec slice-aggregate-put-worded put-worded-requires put-values-requires same-length returns)

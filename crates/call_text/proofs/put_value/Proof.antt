@@ -47,14 +47,4 @@ returns-2 c =
 
 pub put-value-spec : {M : Type 1} → statement M
 put-value-spec =
-    tie.close
-    (tie.spec
-    slice-aggregate-put-bytes
-    put-bytes-requires
-    same-length
-    returns
-    put-requires
-    float-to-bits-put-bits
-    put-bits-requires
-    same-length-2
-    returns-2)
+    tie.close (tie.spec slice-aggregate-put-bytes put-bytes-requires same-length returns put-requires float-to-bits-put-bits put-bits-requires same-length-2 returns-2)

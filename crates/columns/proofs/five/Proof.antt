@@ -50,20 +50,5 @@ returns c = simp (c .add6 .ensures, c .before .sub4 .ensures, c .before .before 
 
 pub five-spec : {M : Type 1} → statement M
 five-spec =
-    tie.close
-    (tie.spec
-    add-requires
-    sub-requires
-    add-requires-2
-    sub-requires-2
-    mix-requires
-    near-requires
-    mix-requires-2
-    far-requires
-    add-requires-3
-    add-requires-4
-    sub-requires-3
-    add-requires-5
-    sub-requires-4
-    add-requires-6
-    returns)
+    tie.close (tie.spec add-requires sub-requires add-requires-2 sub-requires-2 mix-requires near-requires mix-requires-2 far-requires add-requires-3 add-requires-4 sub-requires-3 add-requires-5
+    sub-requires-4 add-requires-6 returns)

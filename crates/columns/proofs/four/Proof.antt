@@ -47,19 +47,5 @@ returns-2 c = rw (c .before .before .before .before .if1 .left) (simp (c .left2 
 
 pub four-spec : {M : Type 1} → statement M
 four-spec =
-    tie.close
-    (tie.spec
-    sub-requires
-    add-requires
-    add-requires-2
-    sub-requires-2
-    add-requires-3
-    left-requires
-    sub-requires-3
-    right-requires
-    returns
-    add-requires-4
-    right-requires-2
-    sub-requires-4
-    left-requires-2
-    returns-2)
+    tie.close (tie.spec sub-requires add-requires add-requires-2 sub-requires-2 add-requires-3 left-requires sub-requires-3 right-requires returns add-requires-4 right-requires-2 sub-requires-4
+    left-requires-2 returns-2)

@@ -32,14 +32,4 @@ returns c = simp (c .right .ensures, c .before .left .ensures, c .before .before
 
 pub three-spec : {M : Type 1} → statement M
 three-spec =
-    tie.close
-    (tie.spec
-    add-requires
-    scaled-requires
-    sub-requires
-    sub-requires-2
-    scaled-requires-2
-    add-requires-2
-    left-requires
-    right-requires
-    returns)
+    tie.close (tie.spec add-requires scaled-requires sub-requires sub-requires-2 scaled-requires-2 add-requires-2 left-requires right-requires returns)

@@ -93,25 +93,5 @@ returns c =
 
 pub turn-in-spec : {M : Type 1} → statement M
 turn-in-spec =
-    tie.close
-    (tie.spec
-    Inv-loop
-    μ-loop
-    loop-holds
-    sub-back
-    get-requires
-    mul-new
-    mul-new-2
-    shared-slice-read-new
-    add-new
-    mul-new-3
-    shared-slice-read-new-2
-    new-requires
-    mul-requires
-    put-requires
-    add-n
-    loop-less
-    loop-again
-    same-length
-    same-length-2
-    returns)
+    tie.close (tie.spec Inv-loop μ-loop loop-holds sub-back get-requires mul-new mul-new-2 shared-slice-read-new add-new mul-new-3 shared-slice-read-new-2 new-requires mul-requires put-requires add-n
+    loop-less loop-again same-length same-length-2 returns)

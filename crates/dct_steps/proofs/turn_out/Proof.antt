@@ -78,23 +78,5 @@ returns c = filled-all (c .before .loop .inv .1) (omega (arith, c .before .loop 
 
 pub turn-out-spec : {M : Type 1} → statement M
 turn-out-spec =
-    tie.close
-    (tie.spec
-    Inv-loop
-    μ-loop
-    loop-holds
-    sub-k
-    sub-k-2
-    get-requires
-    get-requires-2
-    mul-requires
-    get-requires-3
-    get-requires-4
-    mul-requires-2
-    mul-pair
-    pair-requires
-    add-n
-    loop-less
-    loop-again
-    same-length
-    returns)
+    tie.close (tie.spec Inv-loop μ-loop loop-holds sub-k sub-k-2 get-requires get-requires-2 mul-requires get-requires-3 get-requires-4 mul-requires-2 mul-pair pair-requires add-n loop-less loop-again
+    same-length returns)

@@ -49,14 +49,4 @@ returns-3 c =
 
 pub begins-spec : {M : Type 1} → statement M
 begins-spec =
-    tie.close
-    (tie.spec
-    shared-slice-read-if1
-    element-copy-out-if1
-    returns
-    shared-slice-read-if2
-    element-copy-out-if2
-    returns-2
-    shared-slice-read-result
-    element-copy-out-result
-    returns-3)
+    tie.close (tie.spec shared-slice-read-if1 element-copy-out-if1 returns shared-slice-read-if2 element-copy-out-if2 returns-2 shared-slice-read-result element-copy-out-result returns-3)

@@ -72,22 +72,5 @@ returns c =
 
 pub decode-spec : {M : Type 1} → statement M
 decode-spec =
-    tie.close
-    (tie.spec
-    Inv-loop
-    μ-loop
-    loop-holds
-    mul-join
-    shared-slice-read-join
-    mul-join-2
-    add-join
-    shared-slice-read-join-2
-    join-requires
-    sample-requires
-    mul-t14
-    slice-set-from-out
-    add-i
-    loop-less
-    loop-again
-    same-length
-    returns)
+    tie.close (tie.spec Inv-loop μ-loop loop-holds mul-join shared-slice-read-join mul-join-2 add-join shared-slice-read-join-2 join-requires sample-requires mul-t14 slice-set-from-out add-i loop-less
+    loop-again same-length returns)

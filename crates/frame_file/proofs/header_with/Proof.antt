@@ -66,16 +66,4 @@ returns-5 c =
 
 pub header-with-spec : {M : Type 1} → statement M
 header-with-spec =
-    tie.close
-    (tie.spec
-    returns
-    begins-requires
-    returns-2
-    shared-slice-read-join
-    shared-slice-read-join-2
-    join-requires
-    returns-3
-    shared-slice-read-config
-    valid-requires
-    returns-4
-    returns-5)
+    tie.close (tie.spec returns begins-requires returns-2 shared-slice-read-join shared-slice-read-join-2 join-requires returns-3 shared-slice-read-config valid-requires returns-4 returns-5)

@@ -53,18 +53,4 @@ returns c =
 
 pub copied-spec : {M : Type 1} → statement M
 copied-spec =
-    tie.close
-    (tie.spec
-    get-requires
-    add-get
-    get-requires-2
-    mul-get
-    add-get-2
-    get-requires-3
-    mul-get-2
-    add-get-3
-    get-requires-4
-    mul-get-3
-    add-get-4
-    get-requires-5
-    returns)
+    tie.close (tie.spec get-requires add-get get-requires-2 mul-get add-get-2 get-requires-3 mul-get-2 add-get-3 get-requires-4 mul-get-3 add-get-4 get-requires-5 returns)

@@ -52,17 +52,4 @@ returns-3 c = rw (last (c .before .before .before .before .before .before .befor
 
 pub kf-bfly-spec : {M : Type 1} → statement M
 kf-bfly-spec =
-    tie.close
-    (tie.spec
-    kf-bfly2-requires
-    kf-bfly3-requires
-    kf-bfly4-requires
-    same-length
-    same-length-2
-    returns
-    same-length-3
-    same-length-4
-    returns-2
-    same-length-5
-    same-length-6
-    returns-3)
+    tie.close (tie.spec kf-bfly2-requires kf-bfly3-requires kf-bfly4-requires same-length same-length-2 returns same-length-3 same-length-4 returns-2 same-length-5 same-length-6 returns-3)

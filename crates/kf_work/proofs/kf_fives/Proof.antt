@@ -44,17 +44,4 @@ returns-3 c = search needs
 
 pub kf-fives-spec : {M : Type 1} → statement M
 kf-fives-spec =
-    tie.close
-    (tie.spec
-    fives2-requires
-    fives3-requires
-    kf-bfly-requires
-    same-length
-    same-length-2
-    returns
-    same-length-3
-    same-length-4
-    returns-2
-    same-length-5
-    same-length-6
-    returns-3)
+    tie.close (tie.spec fives2-requires fives3-requires kf-bfly-requires same-length same-length-2 returns same-length-3 same-length-4 returns-2 same-length-5 same-length-6 returns-3)

@@ -109,31 +109,5 @@ returns c =
 
 pub kf-leaves-spec : {M : Type 1} → statement M
 kf-leaves-spec =
-    tie.close
-    (tie.spec
-    Inv-loop
-    μ-loop
-    shared-slice-read-s
-    mul-s
-    loop-holds
-    shared-slice-read-if1
-    mul-copied
-    add-copied
-    copied-requires
-    mul-kf-bfly5
-    mul-kf-bfly5-2
-    sub-kf-bfly5
-    part-kf-bfly5-start
-    part-kf-bfly5-end
-    mul-kf-bfly5-3
-    mul-kf-bfly5-4
-    sub-kf-bfly5-2
-    part-kf-bfly5-start-2
-    part-kf-bfly5-end-2
-    kf-bfly5-requires
-    add-q
-    loop-less
-    loop-again
-    same-length
-    same-length-2
-    returns)
+    tie.close (tie.spec Inv-loop μ-loop shared-slice-read-s mul-s loop-holds shared-slice-read-if1 mul-copied add-copied copied-requires mul-kf-bfly5 mul-kf-bfly5-2 sub-kf-bfly5 part-kf-bfly5-start
+    part-kf-bfly5-end mul-kf-bfly5-3 mul-kf-bfly5-4 sub-kf-bfly5-2 part-kf-bfly5-start-2 part-kf-bfly5-end-2 kf-bfly5-requires add-q loop-less loop-again same-length same-length-2 returns)

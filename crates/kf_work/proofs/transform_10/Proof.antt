@@ -84,37 +84,9 @@ returns c =
 -- the needs without a name, for any answer: a wrong one hides none of them
 safe : tie.Need-loop-holds Inv-loop μ-loop → tie.Need-loop-again Inv-loop μ-loop → tie.Need-returns Inv-loop μ-loop → {M : Type 1} → statement M
 safe loop-holds loop-again returns =
-    tie.close
-    (tie.spec
-    Inv-loop
-    μ-loop
-    (λ c. search needs)
-    (λ c. search needs)
-    (λ c. search needs)
-    (λ c. search needs)
-    (λ c. search needs)
-    (λ c. search needs)
-    loop-holds
-    copied-requires
-    (λ c. search needs)
-    (λ c. search needs)
-    (λ c. search needs)
-    (λ c. search needs)
-    (λ c. search needs)
-    (λ c. search needs)
-    (λ c. search needs)
-    (λ c. search needs)
-    (λ c. search needs)
-    (λ c. search needs)
-    kf-bfly5-requires
-    (λ c. search needs)
-    (λ c. search needs)
-    loop-again
-    quad2-requires
-    turn2-requires
-    (λ c. search needs)
-    (λ c. search needs)
-    returns)
+    tie.close (tie.spec Inv-loop μ-loop (λ c. search needs) (λ c. search needs) (λ c. search needs) (λ c. search needs) (λ c. search needs) (λ c. search needs) loop-holds copied-requires
+    (λ c. search needs) (λ c. search needs) (λ c. search needs) (λ c. search needs) (λ c. search needs) (λ c. search needs) (λ c. search needs) (λ c. search needs) (λ c. search needs)
+    (λ c. search needs) kf-bfly5-requires (λ c. search needs) (λ c. search needs) loop-again quad2-requires turn2-requires (λ c. search needs) (λ c. search needs) returns)
 
 pub transform-10-spec : {M : Type 1} → statement M
 transform-10-spec = safe loop-holds loop-again returns

@@ -42,14 +42,4 @@ returns-7 c = says-0 (c .before .before .before .before .before .before .before 
 
 pub judge-spec : {M : Type 1} → statement M
 judge-spec =
-    tie.close
-    (tie.spec
-    is-fft-size-requires
-    returns
-    returns-2
-    returns-3
-    returns-4
-    returns-5
-    first-bad-requires
-    returns-6
-    returns-7)
+    tie.close (tie.spec is-fft-size-requires returns returns-2 returns-3 returns-4 returns-5 first-bad-requires returns-6 returns-7)

@@ -58,15 +58,4 @@ returns c =
 
 pub turn-spec : {M : Type 1} → statement M
 turn-spec =
-    tie.close
-    (tie.spec
-    sub-c
-    slice-aggregate-transform
-    mul-transform
-    sub-transform
-    part-transform-start
-    part-transform-end
-    transform-requires
-    same-length
-    same-length-2
-    returns)
+    tie.close (tie.spec sub-c slice-aggregate-transform mul-transform sub-transform part-transform-start part-transform-end transform-requires same-length same-length-2 returns)

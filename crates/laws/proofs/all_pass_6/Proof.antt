@@ -60,15 +60,4 @@ returns c =
 
 pub all-pass-6-spec : {M : Type 1} → statement M
 all-pass-6-spec =
-    tie.close
-    (tie.spec
-    Inv-loop
-    μ-loop
-    loop-holds
-    mul-passes-6
-    shared-slice-read-passes-6
-    passes-6-requires
-    add-i
-    loop-less
-    loop-again
-    returns)
+    tie.close (tie.spec Inv-loop μ-loop loop-holds mul-passes-6 shared-slice-read-passes-6 passes-6-requires add-i loop-less loop-again returns)

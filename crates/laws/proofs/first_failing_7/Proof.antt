@@ -57,16 +57,4 @@ returns-2 c =
 
 pub first-failing-7-spec : {M : Type 1} → statement M
 first-failing-7-spec =
-    tie.close
-    (tie.spec
-    Inv-loop
-    μ-loop
-    loop-holds
-    mul-passes-7
-    shared-slice-read-passes-7
-    passes-7-requires
-    returns
-    add-k
-    loop-less
-    loop-again
-    returns-2)
+    tie.close (tie.spec Inv-loop μ-loop loop-holds mul-passes-7 shared-slice-read-passes-7 passes-7-requires returns add-k loop-less loop-again returns-2)

@@ -55,16 +55,4 @@ returns-2 c =
 
 pub search-6-spec : {M : Type 1} → statement M
 search-6-spec =
-    tie.close
-    (tie.spec
-    Inv-loop
-    μ-loop
-    loop-holds
-    mul-passes-6
-    shared-slice-read-passes-6
-    passes-6-requires
-    returns
-    add-i
-    loop-less
-    loop-again
-    returns-2)
+    tie.close (tie.spec Inv-loop μ-loop loop-holds mul-passes-6 shared-slice-read-passes-6 passes-6-requires returns add-i loop-less loop-again returns-2)

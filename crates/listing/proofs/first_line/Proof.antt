@@ -46,13 +46,4 @@ returns c =
 
 pub first-line-spec : {M : Type 1} → statement M
 first-line-spec =
-    tie.close
-    (tie.spec
-    blank-requires
-    slice-aggregate-with-bytes
-    with-bytes-requires
-    slice-aggregate-numbered
-    numbered-requires
-    slice-aggregate-numbered-2
-    numbered-requires-2
-    returns)
+    tie.close (tie.spec blank-requires slice-aggregate-with-bytes with-bytes-requires slice-aggregate-numbered numbered-requires slice-aggregate-numbered-2 numbered-requires-2 returns)

@@ -79,17 +79,5 @@ returns-2 c =
 
 pub frame-line-spec : {M : Type 1} → statement M
 frame-line-spec =
-    tie.close
-    (tie.spec
-    digit-requires
-    blank-requires
-    slice-aggregate-numbered
-    numbered-requires
-    enum-known-loudest
-    enum-told
-    slice-aggregate-with-bytes
-    with-bytes-requires
-    returns
-    slice-aggregate-numbered-2
-    numbered-requires-2
-    returns-2)
+    tie.close (tie.spec digit-requires blank-requires slice-aggregate-numbered numbered-requires enum-known-loudest enum-told slice-aggregate-with-bytes with-bytes-requires returns
+    slice-aggregate-numbered-2 numbered-requires-2 returns-2)

@@ -74,15 +74,4 @@ returns-2 c =
 
 pub open-spec : {M : Type 1} → statement M
 open-spec =
-    tie.close
-    (tie.spec
-    read-header-requires
-    enum-known-found
-    start-requires
-    header-number-requires
-    refused-line-requires
-    last-requires
-    returns
-    first-line-requires
-    start-requires-2
-    returns-2)
+    tie.close (tie.spec read-header-requires enum-known-found start-requires header-number-requires refused-line-requires last-requires returns first-line-requires start-requires-2 returns-2)

@@ -29,10 +29,4 @@ returns c =
 
 pub worded-spec : {M : Type 1} → statement M
 worded-spec =
-    tie.close
-    (tie.spec
-    blank-requires
-    with-bytes-requires
-    slice-aggregate-numbered
-    numbered-requires
-    returns)
+    tie.close (tie.spec blank-requires with-bytes-requires slice-aggregate-numbered numbered-requires returns)

@@ -38,16 +38,4 @@ returns c = search needs
 
 pub list-spec : {M : Type 1} → statement M
 list-spec =
-    tie.close
-    (tie.spec
-    Inv-loop
-    μ-loop
-    open-requires
-    loop-holds
-    put-requires
-    next-requires
-    sub-turns
-    loop-less
-    loop-again
-    put-requires-2
-    returns)
+    tie.close (tie.spec Inv-loop μ-loop open-requires loop-holds put-requires next-requires sub-turns loop-less loop-again put-requires-2 returns)

@@ -26,10 +26,4 @@ returns c = search needs
 
 pub put-spec : {M : Type 1} → statement M
 put-spec =
-    tie.close
-    (tie.spec
-    size-requires
-    array-share-prefix-bytes
-    slice-aggregate-write-all
-    write-all-requires
-    returns)
+    tie.close (tie.spec size-requires array-share-prefix-bytes slice-aggregate-write-all write-all-requires returns)

@@ -46,15 +46,4 @@ returns-2 c = filled _ _ (c .before .loop .inv .1) (λ q. absurd (true≢false (
 
 pub fill-spec : {M : Type 1} → statement M
 fill-spec =
-    tie.close
-    (tie.spec
-    Inv-loop
-    μ-loop
-    loop-holds
-    read-more-requires
-    loop-less
-    loop-again
-    same-length
-    returns
-    same-length-2
-    returns-2)
+    tie.close (tie.spec Inv-loop μ-loop loop-holds read-more-requires loop-less loop-again same-length returns same-length-2 returns-2)

@@ -27,11 +27,4 @@ returns-2 c = search needs
 
 pub flush-spec : {M : Type 1} → statement M
 flush-spec =
-    tie.close
-    (tie.spec
-    slice-aggregate-write-all
-    write-all-requires
-    slice-aggregate-write-all-2
-    write-all-requires-2
-    returns
-    returns-2)
+    tie.close (tie.spec slice-aggregate-write-all write-all-requires slice-aggregate-write-all-2 write-all-requires-2 returns returns-2)

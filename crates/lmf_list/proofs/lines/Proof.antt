@@ -79,21 +79,5 @@ returns-3 c = record { within = c .before .before .before .before .before .emit 
 
 pub lines-spec : {M : Type 1} → statement M
 lines-spec =
-    tie.close
-    (tie.spec
-    Inv-loop
-    μ-loop
-    slice-aggregate-open
-    open-requires
-    loop-holds
-    emit-requires
-    slice-aggregate-next
-    next-requires
-    loop-less
-    loop-again
-    same-length
-    returns
-    same-length-2
-    returns-2
-    same-length-3
-    returns-3)
+    tie.close (tie.spec Inv-loop μ-loop slice-aggregate-open open-requires loop-holds emit-requires slice-aggregate-next next-requires loop-less loop-again same-length returns same-length-2 returns-2
+    same-length-3 returns-3)

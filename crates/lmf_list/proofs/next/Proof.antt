@@ -33,11 +33,4 @@ returns c =
 
 pub next-spec : {M : Type 1} → statement M
 next-spec =
-    tie.close
-    (tie.spec
-    wanted-requires
-    slice-relend-prefix-step
-    slice-aggregate-step
-    step-requires
-    same-length
-    returns)
+    tie.close (tie.spec wanted-requires slice-relend-prefix-step slice-aggregate-step step-requires same-length returns)

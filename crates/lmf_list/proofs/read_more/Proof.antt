@@ -57,19 +57,5 @@ returns c =
 
 pub read-more-spec : {M : Type 1} → statement M
 read-more-spec =
-    tie.close
-    (tie.spec
-    sub-read
-    part-read-start
-    part-read-end
-    read-requires
-    slice-aggregate-write-all
-    write-all-requires
-    sub-count
-    part-count-start
-    part-count-end
-    count-requires
-    add-brought
-    brought-requires
-    same-length
-    returns)
+    tie.close (tie.spec sub-read part-read-start part-read-end read-requires slice-aggregate-write-all write-all-requires sub-count part-count-start part-count-end count-requires add-brought
+    brought-requires same-length returns)

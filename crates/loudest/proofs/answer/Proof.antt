@@ -41,12 +41,4 @@ returns-2 c =
 
 pub answer-spec : {M : Type 1} → statement M
 answer-spec =
-    tie.close
-    (tie.spec
-    edges-requires
-    slice-aggregate-scan
-    scan-requires
-    slice-aggregate-product
-    product-requires
-    returns
-    returns-2)
+    tie.close (tie.spec edges-requires slice-aggregate-scan scan-requires slice-aggregate-product product-requires returns returns-2)

@@ -53,16 +53,4 @@ returns c =
 
 pub product-spec : {M : Type 1} → statement M
 product-spec =
-    tie.close
-    (tie.spec
-    add-lines
-    mul-lines
-    shared-slice-read-lines
-    mul-lines-2
-    shared-slice-read-lines-2
-    sub-lines
-    mul-result
-    shared-slice-read-result
-    cast-result
-    int-to-float-result
-    returns)
+    tie.close (tie.spec add-lines mul-lines shared-slice-read-lines mul-lines-2 shared-slice-read-lines-2 sub-lines mul-result shared-slice-read-result cast-result int-to-float-result returns)

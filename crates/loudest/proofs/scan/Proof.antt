@@ -56,14 +56,4 @@ returns c =
 
 pub scan-spec : {M : Type 1} → statement M
 scan-spec =
-    tie.close
-    (tie.spec
-    Inv-loop
-    μ-loop
-    product-requires
-    loop-holds
-    product-requires-2
-    add-i
-    loop-less
-    loop-again
-    returns)
+    tie.close (tie.spec Inv-loop μ-loop product-requires loop-holds product-requires-2 add-i loop-less loop-again returns)

@@ -37,15 +37,5 @@ returns-2 c =
 
 pub apply-energy-estimation-spec : {M : Type 1} → statement M
 apply-energy-estimation-spec =
-    tie.close
-    (tie.spec
-    (λ c κs. search needs)
-    (λ c. search needs)
-    (λ c. search needs)
-    returns
-    (λ c κs. search needs)
-    (λ c. search needs)
-    apply-energy-estimation-requires
-    (λ c. search needs)
-    (λ c. search needs)
-    returns-2)
+    tie.close (tie.spec (λ c κs. search needs) (λ c. search needs) (λ c. search needs) returns (λ c κs. search needs) (λ c. search needs) apply-energy-estimation-requires (λ c. search needs)
+    (λ c. search needs) returns-2)

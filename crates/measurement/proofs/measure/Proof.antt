@@ -33,16 +33,7 @@ returns-2 c =
 -- the needs without a name, for any answer: a wrong one hides none of them
 safe : tie.Need-returns → tie.Need-returns-2 → {M : Type 1} → statement M
 safe returns returns-2 =
-    tie.close
-    (tie.spec
-    (λ c κs. search needs)
-    (λ c. search needs)
-    (λ c. search needs)
-    returns
-    apply-energy-estimation-requires
-    is-near-nyquist-requires
-    (λ c. search needs)
-    (λ c. search needs)
+    tie.close (tie.spec (λ c κs. search needs) (λ c. search needs) (λ c. search needs) returns apply-energy-estimation-requires is-near-nyquist-requires (λ c. search needs) (λ c. search needs)
     returns-2)
 
 pub measure-spec : {M : Type 1} → statement M

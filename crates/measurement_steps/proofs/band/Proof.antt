@@ -29,20 +29,8 @@ returns c =
 -- the needs without a name, for any answer: a wrong one hides none of them
 safe : tie.Need-returns → {M : Type 1} → statement M
 safe returns =
-    tie.close
-    (tie.spec
-    (λ c. search needs)
-    (λ c. search needs)
-    (λ c. search needs)
-    (λ c. search needs)
-    (λ c. search needs)
-    (λ c. search needs)
-    (λ c. search needs)
-    (λ c. search needs)
-    (λ c. search needs)
-    (λ c κs. search needs)
-    add-t9
-    returns)
+    tie.close (tie.spec (λ c. search needs) (λ c. search needs) (λ c. search needs) (λ c. search needs) (λ c. search needs) (λ c. search needs) (λ c. search needs) (λ c. search needs)
+    (λ c. search needs) (λ c κs. search needs) add-t9 returns)
 
 pub band-spec : {M : Type 1} → statement M
 band-spec = safe returns

@@ -41,13 +41,4 @@ returns c =
 
 pub exceeds-spec : {M : Type 1} → statement M
 exceeds-spec =
-    tie.close
-    (tie.spec
-    slice-aggregate-total
-    total-requires
-    mul-total
-    sub-total
-    part-total-start
-    part-total-end
-    total-requires-2
-    returns)
+    tie.close (tie.spec slice-aggregate-total total-requires mul-total sub-total part-total-start part-total-end total-requires-2 returns)

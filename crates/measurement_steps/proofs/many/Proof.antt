@@ -64,19 +64,4 @@ returns c =
 
 pub many-spec : {M : Type 1} → statement M
 many-spec =
-    tie.close
-    (tie.spec
-    Inv-loop
-    μ-loop
-    cast-width
-    int-to-float-width
-    start-requires
-    loop-holds
-    mul-four
-    four-requires
-    add-q
-    loop-less
-    loop-again
-    mul-rest
-    rest-requires
-    returns)
+    tie.close (tie.spec Inv-loop μ-loop cast-width int-to-float-width start-requires loop-holds mul-four four-requires add-q loop-less loop-again mul-rest rest-requires returns)

@@ -49,35 +49,11 @@ returns-10 c = c .many .ensures
 -- the needs without a name, for any answer: a wrong one hides none of them
 safe : tie.Need-returns → tie.Need-returns-2 → tie.Need-returns-3 → tie.Need-returns-4 → tie.Need-returns-5 → tie.Need-returns-6 → tie.Need-returns-7 → tie.Need-returns-8 → tie.Need-returns-9 → tie.Need-returns-10 → {M : Type 1} → statement M
 safe returns returns-2 returns-3 returns-4 returns-5 returns-6 returns-7 returns-8 returns-9 returns-10 =
-    tie.close
-    (tie.spec
-    (λ c κs. search needs)
-    (λ c κs. (omega arith, c .before .start .ensures _))
-    (λ c κs. (omega arith, c .before .start .ensures _))
-    (λ c κs. (omega arith, c .before .start .ensures _))
-    (λ c κs. (omega arith, c .before .start .ensures _))
-    (λ c κs. (omega arith, c .before .start .ensures _))
-    (λ c κs. search needs)
-    (λ c κs. (omega arith, c .before .start .ensures _))
-    (λ c κs. search needs)
-    (λ c κs. (omega arith, c .before .start .ensures _))
-    (λ c κs. search needs)
-    (λ c κs. (omega arith, c .before .start .ensures _))
-    (λ c κs. search needs)
-    (λ c κs. (omega arith, c .before .start .ensures _))
-    (λ c κs. search needs)
-    (λ c κs. search needs)
-    (λ c κs. search needs)
-    returns
-    returns-2
-    returns-3
-    returns-4
-    returns-5
-    returns-6
-    returns-7
-    returns-8
-    returns-9
-    returns-10)
+    tie.close (tie.spec (λ c κs. search needs) (λ c κs. (omega arith, c .before .start .ensures _)) (λ c κs. (omega arith, c .before .start .ensures _))
+    (λ c κs. (omega arith, c .before .start .ensures _)) (λ c κs. (omega arith, c .before .start .ensures _)) (λ c κs. (omega arith, c .before .start .ensures _)) (λ c κs. search needs)
+    (λ c κs. (omega arith, c .before .start .ensures _)) (λ c κs. search needs) (λ c κs. (omega arith, c .before .start .ensures _)) (λ c κs. search needs)
+    (λ c κs. (omega arith, c .before .start .ensures _)) (λ c κs. search needs) (λ c κs. (omega arith, c .before .start .ensures _)) (λ c κs. search needs) (λ c κs. search needs)
+    (λ c κs. search needs) returns returns-2 returns-3 returns-4 returns-5 returns-6 returns-7 returns-8 returns-9 returns-10)
 
 pub measured-spec : {M : Type 1} → statement M
 measured-spec = safe returns returns-2 returns-3 returns-4 returns-5 returns-6 returns-7 returns-8 returns-9 returns-10

@@ -30,16 +30,7 @@ returns-4 c =
 -- the needs without a name, for any answer: a wrong one hides none of them
 safe : tie.Need-returns → tie.Need-returns-2 → tie.Need-returns-3 → tie.Need-returns-4 → {M : Type 1} → statement M
 safe returns returns-2 returns-3 returns-4 =
-    tie.close
-    (tie.spec
-    (λ c. search needs)
-    (λ c κs. search needs)
-    (λ c κs. search needs)
-    (λ c κs. search needs)
-    returns
-    returns-2
-    returns-3
-    returns-4)
+    tie.close (tie.spec (λ c. search needs) (λ c κs. search needs) (λ c κs. search needs) (λ c κs. search needs) returns returns-2 returns-3 returns-4)
 
 pub rest-spec : {M : Type 1} → statement M
 rest-spec = safe returns returns-2 returns-3 returns-4

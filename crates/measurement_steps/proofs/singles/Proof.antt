@@ -87,27 +87,8 @@ returns-2 c =
 -- the needs without a name, for any answer: a wrong one hides none of them
 safe : tie.Need-loop-again Inv-loop μ-loop → tie.Need-returns Inv-loop μ-loop → tie.Need-returns-2 Inv-loop μ-loop → {M : Type 1} → statement M
 safe loop-again returns returns-2 =
-    tie.close
-    (tie.spec
-    Inv-loop
-    μ-loop
-    loop-holds
-    mul-apart
-    apart-requires
-    (λ c. search needs)
-    (λ c. search needs)
-    returns
-    mul-single
-    mul-single-2
-    shared-slice-read-single
-    mul-single-3
-    single-requires
-    add-q
-    loop-less
-    loop-again
-    (λ c. search needs)
-    (λ c. search needs)
-    returns-2)
+    tie.close (tie.spec Inv-loop μ-loop loop-holds mul-apart apart-requires (λ c. search needs) (λ c. search needs) returns mul-single mul-single-2 shared-slice-read-single mul-single-3
+    single-requires add-q loop-less loop-again (λ c. search needs) (λ c. search needs) returns-2)
 
 pub singles-spec : {M : Type 1} → statement M
 singles-spec = safe loop-again returns returns-2

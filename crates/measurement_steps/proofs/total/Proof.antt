@@ -42,14 +42,4 @@ returns c = summed-all (λ x. x) zero32 (c .before .before .args .es .now) (c .b
 
 pub total-spec : {M : Type 1} → statement M
 total-spec =
-    tie.close
-    (tie.spec
-    Inv-loop
-    μ-loop
-    loop-holds
-    mul-sum
-    shared-slice-read-sum
-    add-i
-    loop-less
-    loop-again
-    returns)
+    tie.close (tie.spec Inv-loop μ-loop loop-holds mul-sum shared-slice-read-sum add-i loop-less loop-again returns)

@@ -50,16 +50,4 @@ returns-3 c =
 
 pub answer-spec : {M : Type 1} → statement M
 answer-spec =
-    tie.close
-    (tie.spec
-    rate-requires
-    told-requires
-    returns
-    upper-requires
-    sub-stop
-    stop-requires
-    add-told
-    told-requires-2
-    returns-2
-    told-requires-3
-    returns-3)
+    tie.close (tie.spec rate-requires told-requires returns upper-requires sub-stop stop-requires add-told told-requires-2 returns-2 told-requires-3 returns-3)

@@ -64,15 +64,4 @@ returns-2 c =
 
 pub first-above-spec : {M : Type 1} → statement M
 first-above-spec =
-    tie.close
-    (tie.spec
-    Inv-loop
-    μ-loop
-    loop-holds
-    mul-sum
-    shared-slice-read-sum
-    returns
-    add-i
-    loop-less
-    loop-again
-    returns-2)
+    tie.close (tie.spec Inv-loop μ-loop loop-holds mul-sum shared-slice-read-sum returns add-i loop-less loop-again returns-2)

@@ -63,16 +63,4 @@ returns-4 c =
 
 pub near-nyquist-spec : {M : Type 1} → statement M
 near-nyquist-spec =
-    tie.close
-    (tie.spec
-    valid-requires
-    refused-requires
-    returns
-    nb-requires
-    refused-requires-2
-    returns-2
-    first-failing-7-requires
-    refused-requires-3
-    returns-3
-    answer-requires
-    returns-4)
+    tie.close (tie.spec valid-requires refused-requires returns nb-requires refused-requires-2 returns-2 first-failing-7-requires refused-requires-3 returns-3 answer-requires returns-4)

@@ -59,14 +59,4 @@ returns c =
 
 pub stop-spec : {M : Type 1} → statement M
 stop-spec =
-    tie.close
-    (tie.spec
-    slice-aggregate-total
-    total-requires
-    mul-first-above
-    sub-first-above
-    part-first-above-start
-    part-first-above-end
-    first-above-requires
-    add-result
-    returns)
+    tie.close (tie.spec slice-aggregate-total total-requires mul-first-above sub-first-above part-first-above-start part-first-above-end first-above-requires add-result returns)

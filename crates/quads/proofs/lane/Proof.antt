@@ -46,18 +46,4 @@ returns c = search needs
 
 pub lane-spec : {M : Type 1} → statement M
 lane-spec =
-    tie.close
-    (tie.spec
-    mul-s
-    slice-write-s
-    add-s
-    mul-s-2
-    slice-write-s-2
-    add-s-2
-    mul-s-3
-    slice-write-s-3
-    add-s-3
-    mul-s-4
-    slice-write-s-4
-    same-length
-    returns)
+    tie.close (tie.spec mul-s slice-write-s add-s mul-s-2 slice-write-s-2 add-s-2 mul-s-3 slice-write-s-3 add-s-3 mul-s-4 slice-write-s-4 same-length returns)

@@ -66,18 +66,5 @@ returns c =
 
 pub quad2-spec : {M : Type 1} → statement M
 quad2-spec =
-    tie.close
-    (tie.spec
-    turned2-requires
-    add-turned2
-    turned2-requires-2
-    add-turned2-2
-    turned2-requires-3
-    add-turned2-3
-    turned2-requires-4
-    row-requires
-    add-row
-    row-requires-2
-    same-length
-    same-length-2
+    tie.close (tie.spec turned2-requires add-turned2 turned2-requires-2 add-turned2-2 turned2-requires-3 add-turned2-3 turned2-requires-4 row-requires add-row row-requires-2 same-length same-length-2
     returns)

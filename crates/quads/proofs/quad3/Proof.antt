@@ -75,21 +75,5 @@ returns c =
 
 pub quad3-spec : {M : Type 1} → statement M
 quad3-spec =
-    tie.close
-    (tie.spec
-    turned3-requires
-    add-turned3
-    turned3-requires-2
-    add-turned3-2
-    turned3-requires-3
-    add-turned3-3
-    turned3-requires-4
-    row-requires
-    add-row
-    row-requires-2
-    mul-row
-    add-row-2
-    row-requires-3
-    same-length
-    same-length-2
-    returns)
+    tie.close (tie.spec turned3-requires add-turned3 turned3-requires-2 add-turned3-2 turned3-requires-3 add-turned3-3 turned3-requires-4 row-requires add-row row-requires-2 mul-row add-row-2
+    row-requires-3 same-length same-length-2 returns)

@@ -98,27 +98,5 @@ returns c =
 
 pub quad4-spec : {M : Type 1} → statement M
 quad4-spec =
-    tie.close
-    (tie.spec
-    turned4-requires
-    add-turned4
-    turned4-requires-2
-    add-turned4-2
-    turned4-requires-3
-    add-turned4-3
-    turned4-requires-4
-    second-requires
-    sub-fourth
-    row-requires
-    mul-row
-    add-row
-    row-requires-2
-    mul-row-2
-    add-row-2
-    row-requires-3
-    mul-row-3
-    add-row-3
-    row-requires-4
-    same-length
-    same-length-2
-    returns)
+    tie.close (tie.spec turned4-requires add-turned4 turned4-requires-2 add-turned4-2 turned4-requires-3 add-turned4-3 turned4-requires-4 second-requires sub-fourth row-requires mul-row add-row
+    row-requires-2 mul-row-2 add-row-2 row-requires-3 mul-row-3 add-row-3 row-requires-4 same-length same-length-2 returns)

@@ -42,12 +42,4 @@ returns c =
 
 pub turn2-spec : {M : Type 1} → statement M
 turn2-spec =
-    tie.close
-    (tie.spec
-    turned2-requires
-    put-requires
-    add-put
-    put-requires-2
-    same-length
-    same-length-2
-    returns)
+    tie.close (tie.spec turned2-requires put-requires add-put put-requires-2 same-length same-length-2 returns)

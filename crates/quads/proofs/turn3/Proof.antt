@@ -51,15 +51,4 @@ returns c =
 
 pub turn3-spec : {M : Type 1} → statement M
 turn3-spec =
-    tie.close
-    (tie.spec
-    turned3-requires
-    put-requires
-    add-put
-    put-requires-2
-    mul-put
-    add-put-2
-    put-requires-3
-    same-length
-    same-length-2
-    returns)
+    tie.close (tie.spec turned3-requires put-requires add-put put-requires-2 mul-put add-put-2 put-requires-3 same-length same-length-2 returns)

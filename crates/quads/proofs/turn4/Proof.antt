@@ -74,21 +74,5 @@ returns c =
 
 pub turn4-spec : {M : Type 1} → statement M
 turn4-spec =
-    tie.close
-    (tie.spec
-    turned4-requires
-    second-requires
-    sub-fourth
-    put-requires
-    mul-put
-    add-put
-    put-requires-2
-    mul-put-2
-    add-put-2
-    put-requires-3
-    mul-put-3
-    add-put-3
-    put-requires-4
-    same-length
-    same-length-2
-    returns)
+    tie.close (tie.spec turned4-requires second-requires sub-fourth put-requires mul-put add-put put-requires-2 mul-put-2 add-put-2 put-requires-3 mul-put-3 add-put-3 put-requires-4 same-length
+    same-length-2 returns)

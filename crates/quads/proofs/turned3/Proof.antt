@@ -45,14 +45,4 @@ returns c =
 
 pub turned3-spec : {M : Type 1} → statement M
 turned3-spec =
-    tie.close
-    (tie.spec
-    add-twiddled
-    twiddled-requires
-    mul-twiddled
-    add-twiddled-2
-    add-twiddled-3
-    twiddled-requires-2
-    get-requires
-    three-requires
-    returns)
+    tie.close (tie.spec add-twiddled twiddled-requires mul-twiddled add-twiddled-2 add-twiddled-3 twiddled-requires-2 get-requires three-requires returns)

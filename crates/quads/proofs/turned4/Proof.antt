@@ -62,19 +62,5 @@ returns c =
 
 pub turned4-spec : {M : Type 1} → statement M
 turned4-spec =
-    tie.close
-    (tie.spec
-    add-twiddled
-    twiddled-requires
-    mul-twiddled
-    add-twiddled-2
-    add-twiddled-3
-    twiddled-requires-2
-    mul-twiddled-2
-    add-twiddled-4
-    mul-twiddled-3
-    add-twiddled-5
-    twiddled-requires-3
-    get-requires
-    four-requires
-    returns)
+    tie.close (tie.spec add-twiddled twiddled-requires mul-twiddled add-twiddled-2 add-twiddled-3 twiddled-requires-2 mul-twiddled-2 add-twiddled-4 mul-twiddled-3 add-twiddled-5 twiddled-requires-3
+    get-requires four-requires returns)

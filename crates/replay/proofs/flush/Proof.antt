@@ -35,14 +35,4 @@ returns-3 c = search needs
 
 pub flush-spec : {M : Type 1} → statement M
 flush-spec =
-    tie.close
-    (tie.spec
-    slice-aggregate-write-all
-    write-all-requires
-    returns
-    slice-aggregate-write-all-2
-    write-all-requires-2
-    slice-aggregate-write-all-3
-    write-all-requires-3
-    returns-2
-    returns-3)
+    tie.close (tie.spec slice-aggregate-write-all write-all-requires returns slice-aggregate-write-all-2 write-all-requires-2 slice-aggregate-write-all-3 write-all-requires-3 returns-2 returns-3)

@@ -37,13 +37,4 @@ returns-2 c =
 
 pub last-spec : {M : Type 1} → statement M
 last-spec =
-    tie.close
-    (tie.spec
-    slice-aggregate-put-last
-    put-last-requires
-    same-length
-    returns
-    slice-aggregate-put-last-2
-    put-last-requires-2
-    same-length-2
-    returns-2)
+    tie.close (tie.spec slice-aggregate-put-last put-last-requires same-length returns slice-aggregate-put-last-2 put-last-requires-2 same-length-2 returns-2)

@@ -30,13 +30,4 @@ returns-2 c = simp (ne-eqb (c .before .before .before .before .before .before .a
 
 pub put-spec : {M : Type 1} → statement M
 put-spec =
-    tie.close
-    (tie.spec
-    slice-aggregate-put-show
-    slice-aggregate-put-show-2
-    put-show-requires
-    same-length
-    returns
-    put-answer-requires
-    same-length-2
-    returns-2)
+    tie.close (tie.spec slice-aggregate-put-show slice-aggregate-put-show-2 put-show-requires same-length returns put-answer-requires same-length-2 returns-2)

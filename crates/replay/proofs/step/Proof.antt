@@ -58,16 +58,4 @@ returns-3 c =
 
 pub step-spec : {M : Type 1} → statement M
 step-spec =
-    tie.close
-    (tie.spec
-    returns
-    taken-requires
-    last-requires
-    same-length
-    returns-2
-    byte-at-requires
-    slice-aggregate-made
-    made-requires
-    put-requires
-    same-length-2
-    returns-3)
+    tie.close (tie.spec returns taken-requires last-requires same-length returns-2 byte-at-requires slice-aggregate-made made-requires put-requires same-length-2 returns-3)

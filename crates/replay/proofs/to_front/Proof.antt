@@ -45,17 +45,4 @@ returns c = omega arith
 
 pub to-front-spec : {M : Type 1} → statement M
 to-front-spec =
-    tie.close
-    (tie.spec
-    Inv-loop
-    μ-loop
-    sub-n
-    loop-holds
-    add-input
-    slice-read-input
-    slice-write-input
-    add-i
-    loop-less
-    loop-again
-    same-length
-    returns)
+    tie.close (tie.spec Inv-loop μ-loop sub-n loop-holds add-input slice-read-input slice-write-input add-i loop-less loop-again same-length returns)

@@ -10,8 +10,4 @@ returns c = c .new .ensures ∙ ap (channelOf (c .before .before .args .config))
 
 pub silent-spec : {M : Type 1} → statement M
 silent-spec =
-    tie.close
-    (tie.spec
-    (λ c κs. search needs)
-    (λ c κs. search needs)
-    returns)
+    tie.close (tie.spec (λ c κs. search needs) (λ c κs. search needs) returns)

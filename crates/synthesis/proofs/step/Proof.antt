@@ -76,21 +76,8 @@ returns c =
 -- the needs without a name, for any answer: a wrong one hides none of them
 safe : tie.Need-returns → {M : Type 1} → statement M
 safe returns =
-    tie.close
-    (tie.spec
-    (λ c κs. search needs)
-    sub-keep
-    slice-relend-prefix-samples-of
-    slice-aggregate-samples-of
-    samples-of-requires
-    (λ c. search needs)
-    sub-zeros
-    part-zeros-start
-    part-zeros-end
-    (λ c κs. search needs)
-    (λ c. search needs)
-    (λ c. search needs)
-    returns)
+    tie.close (tie.spec (λ c κs. search needs) sub-keep slice-relend-prefix-samples-of slice-aggregate-samples-of samples-of-requires (λ c. search needs) sub-zeros part-zeros-start part-zeros-end
+    (λ c κs. search needs) (λ c. search needs) (λ c. search needs) returns)
 
 pub step-spec : {M : Type 1} → statement M
 step-spec = safe returns

@@ -42,13 +42,4 @@ returns c =
 
 pub overlap-with-spec : {M : Type 1} → statement M
 overlap-with-spec =
-    tie.close
-    (tie.spec
-    (λ c κs. search needs)
-    (λ c κs. search needs)
-    (λ c κs. search needs)
-    overlap-add-requires
-    (λ c. search needs)
-    (λ c. search needs)
-    (λ c. search needs)
-    returns)
+    tie.close (tie.spec (λ c κs. search needs) (λ c κs. search needs) (λ c κs. search needs) overlap-add-requires (λ c. search needs) (λ c. search needs) (λ c. search needs) returns)

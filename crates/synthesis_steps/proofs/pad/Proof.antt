@@ -26,15 +26,5 @@ returns c =
 
 pub pad-spec : {M : Type 1} → statement M
 pad-spec =
-    tie.close
-    (tie.spec
-    (λ c. search needs)
-    slice-aggregate-copy
-    copy-requires
-    (λ c. search needs)
-    (λ c. search needs)
-    (λ c. search needs)
-    (λ c. search needs)
-    (λ c κs. search needs)
-    (λ c. search needs)
-    returns)
+    tie.close (tie.spec (λ c. search needs) slice-aggregate-copy copy-requires (λ c. search needs) (λ c. search needs) (λ c. search needs) (λ c. search needs) (λ c κs. search needs)
+    (λ c. search needs) returns)

@@ -55,17 +55,4 @@ returns c = c .before .loop .inv .1 ∙ ap (λ (n : ℕ). least (c .before .befo
 
 pub least-spec : {M : Type 1} → statement M
 least-spec =
-    tie.close
-    (tie.spec
-    Inv-loop
-    μ-loop
-    loop-holds
-    mul-near
-    shared-slice-read-near
-    sum-requires
-    near-requires
-    fewer-requires
-    add-i
-    loop-less
-    loop-again
-    returns)
+    tie.close (tie.spec Inv-loop μ-loop loop-holds mul-near shared-slice-read-near sum-requires near-requires fewer-requires add-i loop-less loop-again returns)

@@ -32,13 +32,4 @@ returns c = omega (arith, c .word2 .ensures ∙ ap word (c .before .rest .ensure
 
 pub long-spec : {M : Type 1} → statement M
 long-spec =
-    tie.close
-    (tie.spec
-    word-requires
-    cast-result
-    rest-requires
-    word-requires-2
-    cast-result-2
-    mul-result
-    add-result
-    returns)
+    tie.close (tie.spec word-requires cast-result rest-requires word-requires-2 cast-result-2 mul-result add-result returns)

@@ -48,15 +48,4 @@ returns c = c .before .loop .inv .1 ∙ ap (λ (n : ℕ). peak (c .before .befor
 
 pub peak-spec : {M : Type 1} → statement M
 peak-spec =
-    tie.close
-    (tie.spec
-    Inv-loop
-    μ-loop
-    loop-holds
-    sum-requires
-    magnitude-requires
-    larger-requires
-    add-i
-    loop-less
-    loop-again
-    returns)
+    tie.close (tie.spec Inv-loop μ-loop loop-holds sum-requires magnitude-requires larger-requires add-i loop-less loop-again returns)

@@ -7,9 +7,7 @@ use Rattle.analysis_lines.proofs.arms.fold_large.Tie as tie
 
 pub fold-large-spec : {M : Type 1} → statement M
 fold-large-spec =
-    tie.close
-    (tie.spec
-    (λ c κs. let p = c .before .before .before .pre in at-arm (c .before .match .keys1) (p .0) (p .1) (p .2))
+    tie.close (tie.spec (λ c κs. let p = c .before .before .before .pre in at-arm (c .before .match .keys1) (p .0) (p .1) (p .2))
     (λ c κs. let p = c .before .before .before .pre in at-arm (c .before .match .keys2) (p .0) (p .1) (p .2))
     (λ c κs. let p = c .before .before .before .pre in at-arm (c .before .match .keys3) (p .0) (p .1) (p .2))
     (λ c κs. let p = c .before .before .before .pre in at-arm (c .before .match .keys4) (p .0) (p .1) (p .2))
@@ -20,8 +18,7 @@ fold-large-spec =
     (λ c κs. let p = c .before .before .before .pre in at-arm (c .before .match .keys9) (p .0) (p .1) (p .2))
     (λ c κs. let p = c .before .before .before .pre in at-arm (c .before .match .keys10) (p .0) (p .1) (p .2))
     (λ c κs. let p = c .before .before .before .pre in at-arm (c .before .match .keys11) (p .0) (p .1) (p .2))
-    (λ c κs. let p = c .before .before .before .pre in at-arm (is-last _ (p .3) (p .4) (c .before .match .rest)) (p .0) (p .1) (p .2))
-    (λ c. search needs)
+    (λ c κs. let p = c .before .before .before .pre in at-arm (is-last _ (p .3) (p .4) (c .before .match .rest)) (p .0) (p .1) (p .2)) (λ c. search needs)
     (λ c. let p = c .before .before .before .before .before .before .pre in of-arm (c .before .before .before .before .before .before .args .past .now) (c .before .before .before .before .before .before .args .input .now) (c .before .before .before .before .match .keys1) (c .before .before .fold-n120-7p5ms .ensures))
     (λ c. search needs)
     (λ c. let p = c .before .before .before .before .before .before .pre in of-arm (c .before .before .before .before .before .before .args .past .now) (c .before .before .before .before .before .before .args .input .now) (c .before .before .before .before .match .keys2) (c .before .before .fold-n180-7p5ms .ensures))

@@ -7,9 +7,7 @@ use Rattle.analysis_lines.proofs.arms.fold_of.Tie as tie
 
 pub fold-of-spec : {M : Type 1} → statement M
 fold-of-spec =
-    tie.close
-    (tie.spec
-    (λ c κs. let p = c .before .before .before .pre in at-arm (c .before .match .keys1) (p .0) (p .1) (p .2))
+    tie.close (tie.spec (λ c κs. let p = c .before .before .before .pre in at-arm (c .before .match .keys1) (p .0) (p .1) (p .2))
     (λ c κs. let p = c .before .before .before .pre in at-arm (c .before .match .keys2) (p .0) (p .1) (p .2))
     (λ c κs. let p = c .before .before .before .pre in at-arm (c .before .match .keys3) (p .0) (p .1) (p .2))
     (λ c κs. let p = c .before .before .before .pre in at-arm (c .before .match .keys4) (p .0) (p .1) (p .2))
@@ -17,8 +15,7 @@ fold-of-spec =
     (λ c κs. let p = c .before .before .before .pre in at-arm (c .before .match .keys6) (p .0) (p .1) (p .2))
     (λ c κs. let p = c .before .before .before .pre in at-arm (c .before .match .keys7) (p .0) (p .1) (p .2))
     (λ c κs. let p = c .before .before .before .pre in at-arm (c .before .match .keys8) (p .0) (p .1) (p .2))
-    (λ c κs. let p = c .before .before .before .pre in (p .0, p .1, p .2, p .3, is-large _ (p .3) (c .before .match .rest)))
-    (λ c. search needs)
+    (λ c κs. let p = c .before .before .before .pre in (p .0, p .1, p .2, p .3, is-large _ (p .3) (c .before .match .rest))) (λ c. search needs)
     (λ c. let p = c .before .before .before .before .before .before .pre in of-arm (c .before .before .before .before .before .before .args .past .now) (c .before .before .before .before .before .before .args .input .now) (c .before .before .before .before .match .keys1) (c .before .before .fold-n60-7p5ms .ensures))
     (λ c. search needs)
     (λ c. let p = c .before .before .before .before .before .before .pre in of-arm (c .before .before .before .before .before .before .args .past .now) (c .before .before .before .before .before .before .args .input .now) (c .before .before .before .before .match .keys2) (c .before .before .fold-n80-10ms .ensures))
@@ -34,5 +31,4 @@ fold-of-spec =
     (λ c. let p = c .before .before .before .before .before .before .pre in of-arm (c .before .before .before .before .before .before .args .past .now) (c .before .before .before .before .before .before .args .input .now) (c .before .before .before .before .match .keys7) (c .before .before .fold-n60-2p5ms .ensures))
     (λ c. search needs)
     (λ c. let p = c .before .before .before .before .before .before .pre in of-arm (c .before .before .before .before .before .before .args .past .now) (c .before .before .before .before .before .before .args .input .now) (c .before .before .before .before .match .keys8) (c .before .before .fold-n80-2p5ms .ensures))
-    (λ c. search needs)
-    (λ c. search needs))
+    (λ c. search needs) (λ c. search needs))

@@ -43,12 +43,4 @@ returns-2 c =
 
 pub field-of-spec : {M : Type 1} → statement M
 field-of-spec =
-    tie.close
-    (tie.spec
-    returns
-    rows-requires
-    mul-result
-    add-result
-    mul-result-2
-    array-copy-out-result
-    returns-2)
+    tie.close (tie.spec returns rows-requires mul-result add-result mul-result-2 array-copy-out-result returns-2)

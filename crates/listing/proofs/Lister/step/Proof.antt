@@ -109,24 +109,5 @@ returns-4 c =
 
 pub step-spec : {M : Type 1} → statement M
 step-spec =
-    tie.close
-    (tie.spec
-    read-record-requires
-    enum-known-found
-    slice-aggregate-frame
-    frame-requires
-    enum-told
-    end-line-requires
-    last-requires
-    enum-told-2
-    record-number-requires
-    refused-line-requires
-    last-requires-2
-    enum-told-3
-    record-number-requires-2
-    refused-line-requires-2
-    last-requires-3
-    returns
-    returns-2
-    returns-3
-    returns-4)
+    tie.close (tie.spec read-record-requires enum-known-found slice-aggregate-frame frame-requires enum-told end-line-requires last-requires enum-told-2 record-number-requires refused-line-requires
+    last-requires-2 enum-told-3 record-number-requires-2 refused-line-requires-2 last-requires-3 returns returns-2 returns-3 returns-4)

@@ -35,18 +35,5 @@ returns c = c .before .before .before .listen-in .ensures .0
 
 pub listen-spec : {M : Type 1} → statement M
 listen-spec =
-    tie.close
-    (tie.spec
-    (λ c κs. search needs)
-    (λ c κs. search needs)
-    (λ c κs. search needs)
-    (λ c κs. search needs)
-    (λ c κs. search needs)
-    array-borrow-prefix-lines
-    slice-aggregate-listen-in
-    array-borrow-prefix-energies
-    slice-aggregate-listen-in-2
-    array-borrow-prefix-peaks
-    slice-aggregate-listen-in-3
-    listen-in-requires
-    returns)
+    tie.close (tie.spec (λ c κs. search needs) (λ c κs. search needs) (λ c κs. search needs) (λ c κs. search needs) (λ c κs. search needs) array-borrow-prefix-lines slice-aggregate-listen-in
+    array-borrow-prefix-energies slice-aggregate-listen-in-2 array-borrow-prefix-peaks slice-aggregate-listen-in-3 listen-in-requires returns)

@@ -66,14 +66,4 @@ returns c =
 
 pub listen-to-spec : {M : Type 1} → statement M
 listen-to-spec =
-    tie.close
-    (tie.spec
-    nf-requires
-    silence-requires
-    array-borrow-prefix-samples
-    slice-aggregate-decode
-    decode-requires
-    array-share-prefix-samples
-    slice-aggregate-listen
-    listen-requires
-    returns)
+    tie.close (tie.spec nf-requires silence-requires array-borrow-prefix-samples slice-aggregate-decode decode-requires array-share-prefix-samples slice-aggregate-listen listen-requires returns)

@@ -59,18 +59,4 @@ returns c =
 
 pub copy-to-spec : {M : Type 1} → statement M
 copy-to-spec =
-    tie.close
-    (tie.spec
-    Inv-loop
-    μ-loop
-    size-requires
-    loop-holds
-    array-read-out
-    add-out
-    slice-write-out
-    add-i
-    loop-less
-    loop-again
-    add-result
-    same-length
-    returns)
+    tie.close (tie.spec Inv-loop μ-loop size-requires loop-holds array-read-out add-out slice-write-out add-i loop-less loop-again add-result same-length returns)

@@ -35,10 +35,4 @@ returns c =
 
 pub with-number-spec : {M : Type 1} → statement M
 with-number-spec =
-    tie.close
-    (tie.spec
-    decimal-requires
-    array-share-prefix-digits
-    slice-aggregate-with-bytes
-    with-bytes-requires
-    returns)
+    tie.close (tie.spec decimal-requires array-share-prefix-digits slice-aggregate-with-bytes with-bytes-requires returns)
