@@ -9,10 +9,10 @@ use lib.ListN.{length}
 use lib.Ieee.{Float}
 use borrow.Author.Tests.{not-true, not-false, eq-eqb, ne-eqb}
 use Rattle.config.specs.Config.{valid, nf}
-use Rattle.config.proofs.Verdicts.{went-on}
+use Rattle.refusals.proofs.Verdicts.{went-on}
 use Rattle.analysis.specs.declared.Channel.{Channel}
 use Rattle.analysis_lines.specs.Lines.{linesOf}
-use Rattle.analysis.specs.Analysis.{keptOf, channelOf, held, clearing, cleared, Lent, Given, number, accepted, framed, frames}
+use Rattle.analysis.specs.Analysis.{keptOf, channelOf, channelPast, clearing, cleared, Lent, Given, number, accepted, framed, frames}
 
 pub clear-is : (c : ℕ) (b v : Bool) → v ≡ b → v ≡ valid c → cleared c ≡ clearing b c
 unfolding cleared
@@ -56,7 +56,7 @@ refused ch x (suc n) e h = ap (λ (k : ℕ). framed k ch x) (sym e)
 
 -- a call that is not refused, and what it has made
 pub taken : (ch : Channel) (x : Lent) (n : ℕ) {s : List ℤ} {l : List Float} → n ≡ number (ch .config) x → n ≡ 0
-    → _≡_ {A = Given × Channel} (accepted (ch .config) (held ch) (x .input)) (record { number = 0; lines = l }, channelOf (ch .config) s)
+    → _≡_ {A = Given × Channel} (accepted (ch .config) (channelPast ch) (x .input)) (record { number = 0; lines = l }, channelOf (ch .config) s)
     → _≡_ {A = Given × Channel} (frames ch x) (record { number = n; lines = l }, channelOf (ch .config) s)
 unfolding frames
 taken ch x n {s} {l} e z h = ap (λ (k : ℕ). framed k ch x) (sym e ∙ z) ∙ h ∙ ap (λ (k : ℕ). (record { number = k; lines = l }, channelOf (ch .config) s)) (sym z)

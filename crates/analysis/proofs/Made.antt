@@ -15,7 +15,7 @@ use Rattle.analysis_steps.proofs.Buffers.{past-of, past-of-step}
 use Rattle.analysis_lines.specs.Lines.{timeBuffer}
 use Rattle.analysis_lines.proofs.Made.{fits}
 use Rattle.analysis.specs.Buffers.{Buffers}
-use Rattle.analysis.specs.Analysis.{keptOf, channelOf, held}
+use Rattle.analysis.specs.Analysis.{keptOf, channelOf, channelPast}
 
 module _ (c : ℕ) (past x : List ℤ) (v : T (valid c)) (hp : length past ≡ nf c - z c) (hx : length x ≡ nf c) where
   last-length : length (drop (z c) x) ≡ nf c - z c
@@ -30,7 +30,7 @@ module _ (c : ℕ) (past x : List ℤ) (v : T (valid c)) (hp : length past ≡ n
       ∙ ap₂ (λ (l : List ℤ) (n : ℕ). l ++ replicate (300 - n) (pos 0)) (sym (past-of-step (nf c) (z c) past (fits c past x v hp hx) x hx)) last-length
 
   -- the past of a channel that keeps this frame: the frame's last samples
-  pub next-past : held (channelOf c (keptOf c past x)) ≡ drop (z c) x
+  pub next-past : channelPast (channelOf c (keptOf c past x)) ≡ drop (z c) x
   unfolding keptOf timeBuffer
   next-past =
       ap (λ (l : List ℤ). tab (nf c - z c) (λ k. getD (l ++ replicate (300 - (nf c - z c)) (pos 0)) k (pos 0))) (past-of-step (nf c) (z c) past (fits c past x v hp hx) x hx)

@@ -8,7 +8,7 @@ use lib.ListN.{length, getD, replicate}
 use lib.Ieee.{Float}
 use Rattle.laws.specs.Lists.{tab}
 use Rattle.config.specs.Config.{valid, nf, z}
-use Rattle.config.specs.Refusals as refusals
+use Rattle.refusals.specs.Refusals as refusals
 use Rattle.analysis_steps.specs.Buffer.{pastOf}
 use Rattle.analysis_lines.specs.Lines.{timeBuffer, linesOf}
 use Rattle.analysis.specs.declared.Channel.{Channel}
@@ -26,8 +26,8 @@ abbrev pub channelOf : ℕ → List ℤ → Channel
 channelOf c s = record { config = c; samples = s }
 
 -- its past: the first nf - z places of its samples
-abbrev pub held : Channel → List ℤ
-held ch = tab (nf (ch .config) - z (ch .config)) (λ k. getD (ch .samples) k (pos 0))
+abbrev pub channelPast : Channel → List ℤ
+channelPast ch = tab (nf (ch .config) - z (ch .config)) (λ k. getD (ch .samples) k (pos 0))
 
 -- a channel with nothing in its past
 abbrev pub silent : ℕ → Channel
@@ -67,7 +67,7 @@ accepted c past x = (record { number = refusals.accepted; lines = linesOf c past
 
 -- a refused call writes nothing, and its channel is the one handed in
 abbrev pub framed : ℕ → Channel → Lent → Given × Channel
-framed zero ch x = accepted (ch .config) (held ch) (x .input)
+framed zero ch x = accepted (ch .config) (channelPast ch) (x .input)
 framed (suc n) ch x = (record { number = suc n; lines = x .lines }, ch)
 
 -- what a frame does, on any channel: the contracts of `frame` and `frame_at` cite this

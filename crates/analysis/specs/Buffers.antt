@@ -8,10 +8,10 @@ use lib.ListN.{length}
 use Rattle.config.specs.Config.{valid, nf, z}
 use Rattle.analysis_steps.specs.Buffer.{bufferStep}
 use Rattle.analysis_lines.specs.Lines.{timeBuffer}
-use Rattle.analysis.specs.Analysis.{keptOf, channelOf, held}
+use Rattle.analysis.specs.Analysis.{keptOf, channelOf, channelPast}
 
 pub record Buffers : Type 0 where
   -- The channel does what the Rust's time buffer does. At any configuration, after a past of nf - z samples and a frame x of nf: the time buffer of the next
   -- frame y, made from what the channel keeps of x, is the Rust's step by y from the time buffer of x.
   pub next-buffer : (c : ℕ) (past x : List ℤ) → T (valid c) → length past ≡ nf c - z c → length x ≡ nf c
-      → (y : List ℤ) → timeBuffer c (held (channelOf c (keptOf c past x))) y ≡ bufferStep (nf c) (z c) (timeBuffer c past x) y
+      → (y : List ℤ) → timeBuffer c (channelPast (channelOf c (keptOf c past x))) y ≡ bufferStep (nf c) (z c) (timeBuffer c past x) y

@@ -5,7 +5,7 @@ ghost use mathlib.Core.Path.{_≡_};
 ghost use lib.Dec.{T};
 ghost use lib.ListN.{length};
 ghost use Rattle.config.specs.Config.{valid, nf};
-ghost use Rattle.analysis.specs.Analysis.{channelOf, held, silent, cleared, number, accepted, frames, lent, outcome, outcomeAt};
+ghost use Rattle.analysis.specs.Analysis.{channelOf, channelPast, silent, cleared, number, accepted, frames, lent, outcome, outcomeAt};
 
 // What a stream keeps between frames: the last samples of the frame before, and zeros at the places that its configuration has no use for.
 #[repr(C)]
@@ -48,12 +48,12 @@ pub fn clear(config: u8) -> Cleared
 {
     if config::valid(config) {
         Cleared {
-            number: 0,
+            number: refusals::ACCEPTED,
             channel: silent(config),
         }
     } else {
         Cleared {
-            number: 1,
+            number: refusals::BAD_CONFIG,
             channel: silent(255),
         }
     }
@@ -64,22 +64,22 @@ fn number(c: u8, input: &[i16], lines: &[f32]) -> u8
     ensures { λ r. ⌜ r ≡ number c (lent (now (input .entry)) (now (lines .entry))) ⌝ }
 {
     if !config::valid(c) {
-        return 1;
+        return refusals::BAD_CONFIG;
     }
     let nf = config::nf(c);
     if input.len() != nf {
-        return 3;
+        return refusals::BAD_INPUT;
     }
     if lines.len() != nf {
-        return 4;
+        return refusals::BAD_OUTPUT;
     }
-    0
+    refusals::ACCEPTED
 }
 
 // The step of a call that is not refused. The samples, of 300 places, come as a slice: the checker follows no part of an array behind a reference.
 fn step(c: u8, samples: &mut [i16], input: &[i16], lines: &mut [f32])
     requires { ⌜ T (valid c) × (length (now input) ≡ nf c) × (length (now lines) ≡ nf c) × (length (now samples) ≡ 300) ⌝ }
-    ensures { λ _. ⌜ accepted c (held (channelOf c (now (samples .entry)))) (now (input .entry)) ≡ outcomeAt c 0 (now (samples .exit)) (now (lines .exit)) ⌝ }
+    ensures { λ _. ⌜ accepted c (channelPast (channelOf c (now (samples .entry)))) (now (input .entry)) ≡ outcomeAt c 0 (now (samples .exit)) (now (lines .exit)) ⌝ }
 {
     let z = config::z(c);
     let keep = input.len() - z;
@@ -94,7 +94,7 @@ pub fn frame_at(config: u8, samples: &mut [i16; 300], input: &[i16], lines: &mut
         ≡ outcomeAt config r (now (samples .exit)) (now (lines .exit)) ⌝ }
 {
     let refusal = number(config, input, lines);
-    if refusal == 0 {
+    if refusal == refusals::ACCEPTED {
         step(config, samples, input, lines);
     }
     refusal
@@ -107,7 +107,7 @@ impl Channel {
     {
         let config = self.config;
         let mut framed = Framed {
-            number: 0,
+            number: refusals::ACCEPTED,
             channel: self,
         };
         framed.number = frame_at(config, &mut framed.channel.samples, input, lines);

@@ -10,10 +10,10 @@ use lib.Ieee.{Float}
 use Rattle.config.specs.Config.{valid, nf, z, among, dctLengths}
 use Rattle.config.proofs.Sound.{sound}
 use Rattle.windows.specs.Windows.{window}
-use Rattle.twiddles.specs.Twiddles.{gain}
 use Rattle.dct_steps.specs.Dct.{dctIv}
 use Rattle.analysis_steps.specs.Buffer.{bufferStep, bufferOf}
-use Rattle.analysis_steps.specs.Fold.{folded, gained}
+use Rattle.analysis_steps.specs.Fold.{folded}
+use Rattle.gains.specs.Gains.{gain, scaled}
 use Rattle.analysis_lines.specs.Lines.{timeBuffer, mdct, linesOf}
 
 -- a configuration's frame has a length that the DCT takes
@@ -35,9 +35,9 @@ made-fold c n past x v ep en ew e =
     e ∙ (λ j. folded (en j) (ew j) (bufferStep (en j) (k j) (bufferOf (en j) (k j) past) x))
 
 -- then DCT and gain
-pub made-lines : (c k : ℕ) (past x : List ℤ) {g : Float} {a b d : List Float} → a ≡ folded (nf c) (window c) (timeBuffer c past x) → b ≡ dctIv a → g ≡ gain k → k ≡ nf c → d ≡ gained g b → d ≡ linesOf c past x
+pub made-lines : (c k : ℕ) (past x : List ℤ) {g : Float} {a b d : List Float} → a ≡ folded (nf c) (window c) (timeBuffer c past x) → b ≡ dctIv a → g ≡ gain k → k ≡ nf c → d ≡ scaled g b → d ≡ linesOf c past x
 unfolding linesOf mdct
-made-lines c k past x ea eb eg ek ed = ed ∙ ap₂ gained (eg ∙ ap gain ek) (eb ∙ ap dctIv ea)
+made-lines c k past x ea eb eg ek ed = ed ∙ ap₂ scaled (eg ∙ ap gain ek) (eb ∙ ap dctIv ea)
 
 -- an arm's number in place of the configuration, and back
 pub at-arm : {c k p n m : ℕ} → c ≡ k → p ≡ nf c - z c → n ≡ nf c → m ≡ nf c → (p ≡ nf k - z k) × (n ≡ nf k) × (m ≡ nf k)

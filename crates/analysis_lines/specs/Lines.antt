@@ -5,10 +5,10 @@ use lib.IntN.{ℤ}
 use lib.Ieee.{Float}
 use Rattle.config.specs.Config.{nf, z}
 use Rattle.windows.specs.Windows.{window}
-use Rattle.twiddles.specs.Twiddles.{gain}
 use Rattle.dct_steps.specs.Dct.{dctIv}
 use Rattle.analysis_steps.specs.Buffer.{bufferStep, bufferOf}
-use Rattle.analysis_steps.specs.Fold.{folded, gained}
+use Rattle.analysis_steps.specs.Fold.{folded}
+use Rattle.gains.specs.Gains.{gain, scaled}
 
 -- `update_time_buffer`: the time buffer of the frame x, from one that holds its past
 unfoldable pub timeBuffer : ℕ → List ℤ → List ℤ → List ℤ
@@ -16,7 +16,7 @@ timeBuffer c past x = bufferStep (nf c) (z c) (bufferOf (nf c) (z c) past) x
 
 -- `apply_mdct`: fold with window, DCT, gain
 unfoldable pub mdct : ℕ → List ℤ → List Float
-mdct c t = gained (gain (nf c)) (dctIv (folded (nf c) (window c) t))
+mdct c t = scaled (gain (nf c)) (dctIv (folded (nf c) (window c) t))
 
 -- the lines of the frame x after its past
 unfoldable pub linesOf : ℕ → List ℤ → List ℤ → List Float

@@ -26,5 +26,5 @@ pub fn lines_of(c: u8, past: &[i16], input: &[i16], lines: &mut [f32])
 {
     arms::fold_of(c, past, input, lines);
     dct_iv::run(lines);
-    analysis_steps::scale(lines, twiddles::gain(lines.len()));
+    analysis_steps::scale(lines, gains::gain(lines.len()));
 }

@@ -21,7 +21,3 @@ foldHigh h w t i = sub binary32 (weighed t w i) (weighed t w (2 * h - 1 - i))
 -- both halves, from a buffer and a window of 2 nf places
 unfoldable pub folded : ℕ → List ℕ → List ℤ → List Float
 folded nf w t = tab (nf / 2) (foldLow (nf / 2) w t) ++ tab (nf / 2) (foldHigh (nf / 2) w t)
-
--- each value times the gain
-unfoldable pub gained : Float → List Float → List Float
-gained g l = map (λ (x : Float). mul binary32 x g) l

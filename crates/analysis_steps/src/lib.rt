@@ -12,7 +12,8 @@ ghost use Rattle.laws.specs.Lists.{tab};
 ghost use Rattle.laws.specs.Numbers.{zero32};
 ghost use Rattle.windows.specs.Windows.{Numbers};
 ghost use Rattle.analysis_steps.specs.Buffer.{bufferOf, bufferStep};
-ghost use Rattle.analysis_steps.specs.Fold.{weighed, foldHigh, folded, gained};
+ghost use Rattle.analysis_steps.specs.Fold.{weighed, foldHigh, folded};
+ghost use Rattle.gains.specs.Gains.{scaled};
 
 // The samples of src from place at of dst on.
 fn copy(dst: &mut [i16], at: usize, src: &[i16])
@@ -152,7 +153,7 @@ pub fn fold(past: &[i16], input: &[i16], w: &[u32], out: &mut [f32])
 
 // Inner. Each value by the gain.
 pub fn scale(buf: &mut [f32], gain: f32)
-    ensures { λ _. ⌜ now (buf .exit) ≡ gained gain (now (buf .entry)) ⌝ }
+    ensures { λ _. ⌜ now (buf .exit) ≡ scaled gain (now (buf .entry)) ⌝ }
 {
     let mut i = 0;
     while i < buf.len() {

@@ -14,10 +14,10 @@ use Rattle.laws.proofs.Lists.{length-tab, length-map}
 use Rattle.config.specs.Config.{valid, nf, half}
 use Rattle.config.proofs.Sound.{sound}
 use Rattle.windows.specs.Windows.{window}
-use Rattle.twiddles.specs.Twiddles.{gain}
 use Rattle.dct_steps.specs.Dct.{dctIv}
 use Rattle.dct_steps.proofs.Placed.{length-dctIv}
-use Rattle.analysis_steps.specs.Fold.{weighed, foldLow, foldHigh, folded, gained}
+use Rattle.analysis_steps.specs.Fold.{weighed, foldLow, foldHigh, folded}
+use Rattle.gains.specs.Gains.{gain, scaled}
 use Rattle.analysis_lines.specs.Lines.{mdct}
 use Rattle.bounds.specs.Within.{Within, Each}
 use Rattle.bounds.specs.Size.{Size}
@@ -37,7 +37,7 @@ module _ (c : ℕ) (v : T (valid c)) (t : List ℤ) where
       ∙ ap₂ _+_ (length-tab (half c) (foldLow (half c) (window c) t)) (length-tab (half c) (foldHigh (half c) (window c) t)) ∙ omega (arith, even)
 
   pub length-mdct : length (mdct c t) ≡ nf c
-  unfolding mdct gained
+  unfolding mdct scaled
   length-mdct = length-map (λ (x : Float). mul binary32 x (gain (nf c))) (dctIv (folded (nf c) (window c) t)) ∙ length-dctIv (folded (nf c) (window c) t) ∙ length-folded
 
   module _ (samples : Each (SFits w16) t) where
@@ -57,7 +57,7 @@ module _ (c : ℕ) (v : T (valid c)) (t : List ℤ) where
 
     -- 2 ^ (20 + growth) after the DCT, 2 ^ 30 after the gain
     pub lines-bound : Each (Within (2 ^ 30) 1) (mdct c t)
-    unfolding mdct gained
+    unfolding mdct scaled
     lines-bound =
         let s = sound c v in
         let g = plan-grows c v in

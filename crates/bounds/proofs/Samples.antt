@@ -10,9 +10,9 @@ use Rattle.laws.specs.Numbers.{zero32}
 use Rattle.laws.specs.Passes.{passes6}
 use Rattle.config.specs.Config.{valid, nf, z, ne, half}
 use Rattle.config.proofs.Sound.{sound}
-use Rattle.twiddles.specs.Twiddles.{gain}
-use Rattle.twiddles.specs.Circle.{finite}
-use Rattle.synthesis_steps.specs.Places.{padded, mirrored, unfolded, scaled, windowed, output, remains}
+use Rattle.laws.specs.Exact.{finite}
+use Rattle.synthesis_steps.specs.Places.{padded, mirrored, unfolded, windowed, output, remains}
+use Rattle.gains.specs.Gains.{gain, scaled}
 use Rattle.synthesis_steps.proofs.Places.{length-padded}
 use Rattle.synthesis_frame.specs.Frame.{places}
 use Rattle.synthesis_samples.specs.Samples.{placesOf, samplesOf, memoryOf}

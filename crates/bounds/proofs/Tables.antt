@@ -14,8 +14,10 @@ use Rattle.config.specs.Config.{valid, configs, row, nf, half, among, fftSizes}
 use Rattle.config.proofs.Among.{at-among}
 use Rattle.config.proofs.Sound.{each}
 use Rattle.complex.specs.Complex.{at}
-use Rattle.twiddles.specs.Tables.{sizes, fftReBits, fftImBits, dctReBits, dctImBits, gainBits}
-use Rattle.twiddles.specs.Twiddles.{start, fftRe, fftIm, fftImOf, dctRe, dctIm, twiddle, dctTwiddle, gain}
+use Rattle.twiddles.specs.Tables.{sizes, fftReBits, fftImBits, dctReBits, dctImBits}
+use Rattle.twiddles.specs.Twiddles.{start, fftRe, fftIm, fftImOf, dctRe, dctIm, twiddle, dctTwiddle}
+use Rattle.gains.specs.Tables.{lengths, gainBits}
+use Rattle.gains.specs.Gains.{gain}
 use Rattle.twiddles.proofs.Sizes as twiddles
 use Rattle.windows.specs.Windows as windows
 use Rattle.windows.proofs.Entries.{rule}

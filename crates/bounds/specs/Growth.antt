@@ -9,7 +9,8 @@ use lib.Ieee.{Float}
 use Rattle.complex.specs.declared.Complex.{Complex}
 use Rattle.columns.specs.Column.{two, three, four, five}
 use Rattle.config.specs.Config.{valid, nf, half, among, fftSizes}
-use Rattle.twiddles.specs.Twiddles.{twiddle, dctTwiddle, gain}
+use Rattle.twiddles.specs.Twiddles.{twiddle, dctTwiddle}
+use Rattle.gains.specs.Gains.{gain}
 use Rattle.kf_work.specs.Work.{plan, span, planned, column, work}
 use Rattle.dct_steps.specs.Dct.{dctIv}
 use Rattle.bounds.specs.Within.{Each}

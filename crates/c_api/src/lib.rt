@@ -9,8 +9,8 @@ ghost use Rattle.synthesis.specs.Synthesis as sy;
 ghost use Rattle.loudest.specs.Loudest.{heard};
 ghost use Rattle.near_nyquist.specs.Sooner.{asked};
 ghost use Rattle.c_api.specs.Layout.{loudestHeard};
-use config::Verdict;
 use loudest::Loudest;
+use refusals::Verdict;
 
 #[repr(C)]
 pub struct LoudestHeard {
@@ -39,7 +39,7 @@ pub extern "C" fn loamscarf_fft(
 // Entry. The DCT-IV, in place.
 #[no_mangle]
 pub extern "C" fn loamscarf_dct_iv(length: usize, buf: &mut [f32]) -> Verdict
-    ensures { λ r. ⌜ dc.left r (now (buf .exit)) ≡ dc.answer length (now (buf .entry)) ⌝ }
+    ensures { λ r. ⌜ dc.outcome r (now (buf .exit)) ≡ dc.answer length (now (buf .entry)) ⌝ }
 {
     dct_iv::dct_iv(length, buf)
 }

@@ -8,7 +8,7 @@ use lib.Dec.{ltb, leb, eqb}
 use lib.ListN.{length, getD, take, drop}
 use lib.Ieee.{Float, binary32, ofBits, ofInt, add}
 use Rattle.frame_file.specs.File.{signed}
-use Rattle.config.specs.Refusals.{accepted, shortFile, badMark, badVersion}
+use Rattle.refusals.specs.Refusals.{accepted, shortFile, badMark, badVersion}
 use Rattle.call_log.specs.declared.Header.{Header}
 use Rattle.call_log.specs.declared.Header.the-variants.{Good, Short, Unmarked, Foreign}
 use Rattle.call_log.specs.declared.layout.Field.{Field}

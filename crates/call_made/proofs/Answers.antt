@@ -8,7 +8,7 @@ use lib.Ieee.{Float}
 use lib.Dec.{eqb}
 use lib.ListN.{length, getD, take, drop}
 use borrow.Author.Tests.{eq-eqb, ne-eqb}
-use Rattle.config.specs.declared.Verdict.{Verdict}
+use Rattle.refusals.specs.declared.Verdict.{Verdict}
 use Rattle.laws.specs.Lists.{tab}
 use Rattle.call_log.specs.Log.{short, floatOf}
 use Rattle.call_text.specs.declared.Extra.the-variants.{Nothing, Flag}
@@ -110,10 +110,10 @@ transformed-is b x {m = m} {n = n} {room = room} {other = other} r p q es ei ey 
 
 -- 6: with what the DCT left
 abbrev turnedAs : dc.Answer → ℕ → List Float → Answer
-turnedAs a m room = one (a .judged .number) (a .judged .index) Nothing (a .held ++ drop m room) m
+turnedAs a m room = one (a .judged .number) (a .judged .index) Nothing (a .buf ++ drop m room) m
 
 pub turned-is : (b : List ℕ) {m : ℕ} {room : List Float} (r : Verdict) (p : List Float) {a : Answer} →
-    Area (drop 3 b) m room → dc.left r p ≡ dc.answer (short (drop 1 b)) (tab (length (take m room)) (floatOf (drop 3 b))) →
+    Area (drop 3 b) m room → dc.outcome r p ≡ dc.answer (short (drop 1 b)) (tab (length (take m room)) (floatOf (drop 3 b))) →
     a ≡ one (r .number) (r .index) Nothing (p ++ drop m room) m → a ≡ dct b
 unfolding dct
 turned-is b {m = m} {room = room} r p u e ea =

@@ -149,7 +149,7 @@ unfoldable pub dct : List ℕ → Answer
 dct b =
     let x = drop 3 b in
     let a = dc.answer (short (drop 1 b)) (floats x) in
-    one (a .judged .number) (a .judged .index) Nothing (whole area x (a .held)) (count x)
+    one (a .judged .number) (a .judged .index) Nothing (whole area x (a .buf)) (count x)
 
 -- 7: the area has the product, where it is loud
 abbrev pub told : Heard → Loudest → Answer

@@ -351,8 +351,8 @@ fn dct(b: &[u8]) -> Answer
     one_area(v.number, v.index, Extra::Nothing, x, m)
 }
 
-fn dct_on(b: &[u8], values: &mut [f32]) -> config::Verdict
-    ensures { λ r. ⌜ dc.left r (now (values .exit)) ≡ dc.answer (short (drop 1 (now (b .entry)))) (tab (length (now (values .entry))) (floatOf (drop 3 (now (b .entry))))) ⌝ }
+fn dct_on(b: &[u8], values: &mut [f32]) -> refusals::Verdict
+    ensures { λ r. ⌜ dc.outcome r (now (values .exit)) ≡ dc.answer (short (drop 1 (now (b .entry)))) (tab (length (now (values .entry))) (floatOf (drop 3 (now (b .entry))))) ⌝ }
 {
     call_log::floats(call_log::rest(b, 3), values);
     dct_iv::dct_iv(call_log::short(call_log::rest(b, 1)) as usize, values)

@@ -1,4 +1,3 @@
 pub mod Config
 pub mod Tables
-pub mod Refusals
 pub mod Sound

@@ -20,13 +20,6 @@ pub struct Lc3Config {
     pub upper: usize,
 }
 
-// What a call is told of its refusal: the number, 0 where it is accepted, and for numbers 6 and 7 the place.
-#[repr(C)]
-pub struct Verdict {
-    pub number: u8,
-    pub index: usize,
-}
-
 // Entry. Whether c is a configuration.
 pub fn valid(c: u8) -> bool
     ensures { λ r. ⌜ r ≡ valid c ⌝ }

@@ -3,24 +3,23 @@
 use mathlib.Core.Path.{_≡_, sym, ap, subst, _∙_}
 use mathlib.Core.Bool.{Bool, true, false, _&&_, _||_}
 use mathlib.Core.List.{List, [], _∷_}
-use Prim.Native.Nat.{ℕ, _*_, _/_, _<_, _≤_}
+use Prim.Native.Nat.{ℕ, _*_, _/_, _<_}
 use native.Mathlib.Omega.{arith}
 use lib.Dec.{T, eqb, leb, ltb, eqb→eq}
 use lib.Ieee.{Float}
 use lib.Ieee.Fits.{and-l}
 use lib.ListN.{length}
-use borrow.Author.Tests.{eq-eqb, ne-eqb, lt-ltb, le-ltb}
-use Rattle.laws.specs.Lists.{first}
-use Rattle.laws.specs.Passes.{passes6}
+use borrow.Author.Tests.{eq-eqb, ne-eqb}
 use Rattle.laws.proofs.Table.{every}
 use Rattle.laws.proofs.Arms.{Outside}
 use Rattle.config.specs.Tables.{rows}
 use Rattle.config.specs.Config.{row, half, among, fftSizes, dctLengths}
 use Rattle.config.proofs.Among.{at-among, past-small, past-large}
-use Rattle.config.proofs.Verdicts.{passed}
-use Rattle.config.specs.declared.Verdict.{Verdict}
+use Rattle.refusals.specs.declared.Verdict.{Verdict}
+use Rattle.refusals.specs.Refusals.{onValues}
+use Rattle.refusals.proofs.Verdicts.{passed, by-values}
 use Rattle.dct_steps.specs.Dct.{dctIv}
-use Rattle.dct_iv.specs.DctIv.{number, verdict, left, answer}
+use Rattle.dct_iv.specs.DctIv.{number, verdict, outcome, answer}
 
 abbrev fits : ℕ → Bool
 fits n = among fftSizes (n / 2) && eqb n (2 * (n / 2))
@@ -69,13 +68,9 @@ module _ (n : ℕ) (buf : List Float) where
   unfolding verdict number
   says-3 k e = rw (k, ne-eqb (length buf) n e)
 
-  pub says-6 : among dctLengths n ≡ true → length buf ≡ n → (i : ℕ) → i ≡ first passes6 buf → i < n → says 6 i
+  pub says-rest : among dctLengths n ≡ true → length buf ≡ n → {w : Verdict} → w ≡ onValues buf → w ≡ verdict n buf
   unfolding verdict number
-  says-6 k e i is l = rw (is, k, eq-eqb (length buf) n e, lt-ltb (first passes6 buf) n (rw is at l))
-
-  pub says-0 : among dctLengths n ≡ true → length buf ≡ n → (i : ℕ) → i ≡ first passes6 buf → n ≤ i → says 0 0
-  unfolding verdict number
-  says-0 k e i is l = rw (k, eq-eqb (length buf) n e, le-ltb (first passes6 buf) n (rw is at l))
+  says-rest k e f = rw (k, eq-eqb (length buf) n e, ← e) (f ∙ by-values buf)
 
 module _ (n : ℕ) (buf : List Float) (v : Verdict) (e : v ≡ verdict n buf) where
   is : number n buf ≡ v .number
@@ -90,10 +85,10 @@ module _ (n : ℕ) (buf : List Float) (v : Verdict) (e : v ≡ verdict n buf) wh
       let p2 = passed (eqb (length buf) n) _ 3 (λ y. omega arith) (p1 .1) in
       (p1 .0, eqb→eq (length buf) n (p2 .0))
 
-  pub refused : (v .number ≡ 0 → ⊥) → left v buf ≡ answer n buf
+  pub refused : (v .number ≡ 0 → ⊥) → outcome v buf ≡ answer n buf
   unfolding answer
-  refused h = rw (ne-eqb (number n buf) 0 (λ z. h (sym is ∙ z))) (ap (λ (w : Verdict). left w buf) e)
+  refused h = rw (ne-eqb (number n buf) 0 (λ z. h (sym is ∙ z))) (ap (λ (w : Verdict). outcome w buf) e)
 
-  pub accepted : v .number ≡ 0 → (out : List Float) → out ≡ dctIv buf → left v out ≡ answer n buf
+  pub accepted : v .number ≡ 0 → (out : List Float) → out ≡ dctIv buf → outcome v out ≡ answer n buf
   unfolding answer
-  accepted z out h = rw (eq-eqb (number n buf) 0 (is ∙ z)) (λ j. left (e j) (h j))
+  accepted z out h = rw (eq-eqb (number n buf) 0 (is ∙ z)) (λ j. outcome (e j) (h j))

@@ -8,8 +8,8 @@ use lib.ListN.{length}
 use Rattle.laws.specs.Lists.{first}
 use Rattle.laws.specs.Passes.{passes6}
 use Rattle.config.specs.Config.{among, dctLengths}
-use Rattle.config.specs.declared.Verdict.{Verdict}
-use Rattle.config.specs.Refusals.{accepted, badSize, badInput, badValue, verdictOf}
+use Rattle.refusals.specs.declared.Verdict.{Verdict}
+use Rattle.refusals.specs.Refusals.{accepted, badSize, badInput, badValue, verdictOf}
 use Rattle.dct_steps.specs.Dct.{dctIv}
 
 -- the number for a length and a buffer
@@ -24,11 +24,11 @@ verdict n buf = verdictOf (number n buf) (first passes6 buf)
 -- a call's verdict, and its buffer as it returns
 pub record Answer : Type 0 where
   pub judged : Verdict
-  pub held : List Float
+  pub buf : List Float
 
-abbrev pub left : Verdict → List Float → Answer
-left v buf = record { judged = v; held = buf }
+abbrev pub outcome : Verdict → List Float → Answer
+outcome v buf = record { judged = v; buf = buf }
 
 -- "A refused call writes nothing"; an accepted one leaves the DCT in the buffer.
 unfoldable pub answer : ℕ → List Float → Answer
-answer n buf = left (verdict n buf) (cond (eqb (number n buf) accepted) (dctIv buf) buf)
+answer n buf = outcome (verdict n buf) (cond (eqb (number n buf) accepted) (dctIv buf) buf)

@@ -6,8 +6,8 @@ ghost use lib.Dec.{T};
 ghost use lib.ListN.{length};
 ghost use Rattle.config.specs.Config.{among, dctLengths};
 ghost use Rattle.dct_steps.specs.Dct.{dctIv};
-ghost use Rattle.dct_iv.specs.DctIv.{verdict, left, answer};
-use config::Verdict;
+ghost use Rattle.dct_iv.specs.DctIv.{verdict, outcome, answer};
+use refusals::Verdict;
 
 // The DCT-IV of more than 80 values. It stands apart so that a small one does not take the stack of the longest.
 fn run_large(buf: &mut [f32])
@@ -44,36 +44,20 @@ fn judge(n: usize, buf: &[f32]) -> Verdict
     ensures { λ r. ⌜ r ≡ verdict n (now (buf .entry)) ⌝ }
 {
     if !config::is_dct_length(n) {
-        return Verdict {
-            number: 2,
-            index: 0,
-        };
+        return Verdict::told(refusals::BAD_SIZE);
     }
     if buf.len() != n {
-        return Verdict {
-            number: 3,
-            index: 0,
-        };
+        return Verdict::told(refusals::BAD_INPUT);
     }
-    let bad = laws::first_failing_6(buf);
-    if bad < n {
-        return Verdict {
-            number: 6,
-            index: bad,
-        };
-    }
-    Verdict {
-        number: 0,
-        index: 0,
-    }
+    refusals::on_values(buf)
 }
 
 // Entry. The DCT-IV of buf, in place. A refused call writes nothing.
 pub fn dct_iv(length: usize, buf: &mut [f32]) -> Verdict
-    ensures { λ r. ⌜ left r (now (buf .exit)) ≡ answer length (now (buf .entry)) ⌝ }
+    ensures { λ r. ⌜ outcome r (now (buf .exit)) ≡ answer length (now (buf .entry)) ⌝ }
 {
     let v = judge(length, buf);
-    if v.number != 0 {
+    if v.number != refusals::ACCEPTED {
         return v;
     }
     run(buf);

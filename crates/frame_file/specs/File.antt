@@ -8,7 +8,7 @@ use lib.Dec.{ltb, eqb}
 use lib.ListN.{length, getD, take, drop}
 use Rattle.laws.specs.Lists.{tab}
 use Rattle.config.specs.Config.{valid, nf}
-use Rattle.config.specs.Refusals.{accepted, badConfig, shortFile, badMark, badVersion, cutFrame}
+use Rattle.refusals.specs.Refusals.{accepted, badConfig, shortFile, badMark, badVersion, cutFrame}
 use Rattle.frame_file.specs.declared.Header.{Header}
 use Rattle.frame_file.specs.declared.Header.the-variants.{Good, Short, Unmarked, Foreign, Unknown}
 use Rattle.frame_file.specs.declared.Record.{Record}

@@ -11,11 +11,11 @@ use borrow.Author.Tests.{eq-eqb, ne-eqb, lt-ltb, le-ltb}
 use Rattle.laws.proofs.Table.{every}
 use Rattle.laws.proofs.Arms.{Outside}
 use Rattle.complex.specs.Complex.{at}
-use Rattle.config.specs.declared.Verdict.{Verdict}
+use Rattle.refusals.specs.declared.Verdict.{Verdict}
 use Rattle.config.specs.Tables.{rows}
 use Rattle.config.specs.Config.{row, half, among, fftSizes}
 use Rattle.config.proofs.Among.{past-small, past-large}
-use Rattle.config.proofs.Verdicts.{passed, both-are}
+use Rattle.refusals.proofs.Verdicts.{passed, both-are}
 use Rattle.twiddles.specs.Twiddles.{twiddle}
 use Rattle.kf_work.specs.Work.{spectrum, reals, imaginaries}
 use Rattle.kissfft.specs.Fft.{firstBad, number, verdict, left, answer}

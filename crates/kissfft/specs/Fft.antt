@@ -9,8 +9,8 @@ use Rattle.laws.specs.Lists.{first}
 use Rattle.laws.specs.Passes.{passes6}
 use Rattle.complex.specs.Complex.{at}
 use Rattle.config.specs.Config.{among, fftSizes}
-use Rattle.config.specs.declared.Verdict.{Verdict}
-use Rattle.config.specs.Refusals.{accepted, badSize, badInput, badOutput, badValue, verdictOf}
+use Rattle.refusals.specs.declared.Verdict.{Verdict}
+use Rattle.refusals.specs.Refusals.{accepted, badSize, badInput, badOutput, badValue, verdictOf}
 use Rattle.twiddles.specs.Twiddles.{twiddle}
 use Rattle.kf_work.specs.Work.{spectrum, reals, imaginaries}
 

@@ -13,7 +13,6 @@ ghost use Rattle.twiddles.specs.Twiddles.{twiddle};
 ghost use Rattle.fft_tables.specs.FftTables.{packedTable, packedDirected};
 ghost use Rattle.kf_work.specs.Work.{plan, spectrum, reals, imaginaries};
 ghost use Rattle.kissfft.specs.Fft.{firstBad, verdict, left, answer};
-use config::Verdict;
 use fft_tables::fft_10;
 use fft_tables::fft_20;
 use fft_tables::fft_30;
@@ -37,6 +36,7 @@ use fft_tables::plan_160;
 use fft_tables::plan_180;
 use fft_tables::plan_240;
 use kf_work::transform;
+use refusals::Verdict;
 use twiddles::negate;
 
 // The lowest place where a part does not pass 6, or the length.

@@ -2,3 +2,4 @@ pub mod Lists
 pub mod Passes
 pub mod Numbers
 pub mod Greatest
+pub mod Exact

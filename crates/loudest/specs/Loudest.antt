@@ -11,7 +11,7 @@ use Rattle.laws.specs.Lists.{tab, first}
 use Rattle.laws.specs.Greatest.{best}
 use Rattle.laws.specs.Passes.{passes7}
 use Rattle.config.specs.Config.{valid, nb, edges}
-use Rattle.config.specs.Refusals.{accepted, badConfig, badEnergies, badEnergy}
+use Rattle.refusals.specs.Refusals.{accepted, judged}
 use Rattle.loudest.specs.declared.Loudest.{Loudest}
 use Rattle.loudest.specs.declared.Loudest.the-variants.{Quiet, Loud}
 use Rattle.loudest.specs.declared.Heard.{Heard}
@@ -53,10 +53,7 @@ abbrev pub told : Loudest → Heard
 told answer = record { number = accepted; index = 0; loudest = answer }
 
 unfoldable pub heard : ℕ → List Float → Heard
-heard c l =
-    cond (not (valid c)) (refusal badConfig 0)
-    (cond (not (eqb (length l) (nb c))) (refusal badEnergies 0)
-    (cond (eqb (first passes7 l) (length l)) (told (loudest c l)) (refusal badEnergy (first passes7 l))))
+heard c l = judged refusal (told (loudest c l)) c l
 
 -- ---- the paper's number, index and values for each case of the answer
 pub record Paper : Type 0 where

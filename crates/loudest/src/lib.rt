@@ -78,19 +78,13 @@ fn refused(number: u8, index: usize) -> Heard
 pub fn loudest_band(config: u8, energies: &[f32]) -> Heard
     ensures { λ r. ⌜ r ≡ heard config (now (energies .entry)) ⌝ }
 {
-    if !config::valid(config) {
-        return refused(1, 0);
-    }
-    if energies.len() != config::nb(config) {
-        return refused(5, 0);
-    }
-    let failing = laws::first_failing_7(energies);
-    if failing < energies.len() {
-        return refused(7, failing);
+    let v = refusals::on_energies(config, energies);
+    if v.number != refusals::ACCEPTED {
+        return refused(v.number, v.index);
     }
     let loudest = answer(config, energies);
     Heard {
-        number: 0,
+        number: refusals::ACCEPTED,
         index: 0,
         loudest,
     }

@@ -1,20 +1,19 @@
 -- What `measures` says, case by case, as the code's tests have it. Assumes nothing.
-use mathlib.Core.Path.{_≡_, refl, sym, ap, subst, _∙_}
+use mathlib.Core.Path.{_≡_, refl, sym, ap, _∙_}
 use mathlib.Core.Bool.{Bool, true, false, not}
 use mathlib.Core.List.{List}
-use Prim.Native.Nat.{ℕ, zero, suc, _≤_, _<_}
+use Prim.Native.Nat.{ℕ, zero, suc}
 use lib.Dec.{T, eqb, eqb→eq}
 use lib.ListN.{length}
 use lib.Ieee.{Float}
-use borrow.Author.Tests.{not-true, not-false, eq-eqb, ne-eqb, lt-ltb, le-ltb}
-use Rattle.laws.specs.Lists.{first}
-use Rattle.laws.specs.Passes.{passes6}
+use borrow.Author.Tests.{not-true, not-false, eq-eqb, ne-eqb}
 use Rattle.config.specs.Config.{valid, nf, nb}
-use Rattle.config.specs.declared.Verdict.{Verdict}
-use Rattle.config.proofs.Verdicts.{went-on}
+use Rattle.refusals.specs.declared.Verdict.{Verdict}
+use Rattle.refusals.specs.Refusals.{onValues}
+use Rattle.refusals.proofs.Verdicts.{went-on, by-values}
 use Rattle.measurement.specs.Measurement.{energiesOf, peaksOf, flagOf, Lent, Given, number, verdict, refusedBy, measured, measures}
 
--- the verdict, from the tests one after the other; v is what the code's test of the configuration gave, k what its search gave
+-- the verdict, from the tests one after the other; v is what the code's test of the configuration gave
 module _ (c : ℕ) (x : Lent) {v : Bool} (e : v ≡ valid c) where
   abbrev Says : ℕ → ℕ → Type 0
   Says n i = _≡_ {A = Verdict} (record { number = n; index = i }) (verdict (number c x) x)
@@ -37,12 +36,8 @@ module _ (c : ℕ) (x : Lent) {v : Bool} (e : v ≡ valid c) where
         pub says-5-too : (length (x .peaks) ≡ nb c → ⊥) → Says 5 0
         says-5-too d = rw (ok, eq-eqb _ _ a, eq-eqb _ _ b, ne-eqb _ _ d)
 
-        module _ (d : length (x .peaks) ≡ nb c) {k : ℕ} (f : k ≡ first passes6 (x .lines)) where
-          pub says-6 : k < length (x .lines) → Says 6 k
-          says-6 g = rw (ok, eq-eqb _ _ a, eq-eqb _ _ b, eq-eqb _ _ d, lt-ltb _ _ (subst (λ (j : ℕ). j < length (x .lines)) f g), f)
-
-          pub says-0 : length (x .lines) ≤ k → Says 0 0
-          says-0 g = rw (ok, eq-eqb _ _ a, eq-eqb _ _ b, eq-eqb _ _ d, le-ltb _ _ (subst (λ (j : ℕ). length (x .lines) ≤ j) f g))
+        pub says-rest : length (x .peaks) ≡ nb c → {w : Verdict} → w ≡ onValues (x .lines) → w ≡ verdict (number c x) x
+        says-rest d f = rw (ok, eq-eqb _ _ a, eq-eqb _ _ b, eq-eqb _ _ d) (f ∙ by-values (x .lines))
 
 -- a refused call
 pub refused : (c : ℕ) (x : Lent) (v : Verdict) → v ≡ verdict (number c x) x → (v .number ≡ 0 → ⊥) → refusedBy (v .number) (v .index) x ≡ measures c x

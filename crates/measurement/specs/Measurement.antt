@@ -9,8 +9,8 @@ use lib.Ieee.{Float}
 use Rattle.laws.specs.Lists.{first}
 use Rattle.laws.specs.Passes.{passes6}
 use Rattle.config.specs.Config.{valid, nf, nb, rate, upper, edges}
-use Rattle.config.specs.Refusals as refusals
-use Rattle.config.specs.declared.Verdict.{Verdict}
+use Rattle.refusals.specs.Refusals as refusals
+use Rattle.refusals.specs.declared.Verdict.{Verdict}
 use Rattle.measurement_steps.specs.Energy.{energies, exceeds}
 use Rattle.measurement_steps.specs.Peak.{peaks}
 use Rattle.measurement.specs.declared.Measured.{Measured}

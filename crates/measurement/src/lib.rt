@@ -6,7 +6,7 @@ ghost use lib.Dec.{T};
 ghost use lib.ListN.{length};
 ghost use Rattle.config.specs.Config.{valid, nf, nb};
 ghost use Rattle.measurement.specs.Measurement.{energiesOf, peaksOf, flagOf, number, verdict, measures, lent, outcome};
-use config::Verdict;
+use refusals::Verdict;
 
 #[repr(C)]
 pub struct Measured {
@@ -44,40 +44,18 @@ fn refusal(c: u8, lines: &[f32], energies: &[f32], peaks: &[usize]) -> Verdict
     ensures { λ r. ⌜ r ≡ verdict (number c (lent (now (lines .entry)) (now (energies .entry)) (now (peaks .entry)))) (lent (now (lines .entry)) (now (energies .entry)) (now (peaks .entry))) ⌝ }
 {
     if !config::valid(c) {
-        return Verdict {
-            number: 1,
-            index: 0,
-        };
+        return Verdict::told(refusals::BAD_CONFIG);
     }
     if lines.len() != config::nf(c) {
-        return Verdict {
-            number: 3,
-            index: 0,
-        };
+        return Verdict::told(refusals::BAD_INPUT);
     }
     if energies.len() != config::nb(c) {
-        return Verdict {
-            number: 5,
-            index: 0,
-        };
+        return Verdict::told(refusals::BAD_ENERGIES);
     }
     if peaks.len() != config::nb(c) {
-        return Verdict {
-            number: 5,
-            index: 0,
-        };
+        return Verdict::told(refusals::BAD_ENERGIES);
     }
-    let first = laws::first_failing_6(lines);
-    if first < lines.len() {
-        return Verdict {
-            number: 6,
-            index: first,
-        };
-    }
-    Verdict {
-        number: 0,
-        index: 0,
-    }
+    refusals::on_values(lines)
 }
 
 // Entry. The energies and peaks of nf lines, and their flag. A refusal writes nothing.
@@ -85,7 +63,7 @@ pub fn measure(config: u8, lines: &[f32], energies: &mut [f32], peaks: &mut [usi
     ensures { λ r. ⌜ outcome r (now (energies .exit)) (now (peaks .exit)) ≡ measures config (lent (now (lines .entry)) (now (energies .entry)) (now (peaks .entry))) ⌝ }
 {
     let v = refusal(config, lines, energies, peaks);
-    if v.number != 0 {
+    if v.number != refusals::ACCEPTED {
         return Measured {
             number: v.number,
             index: v.index,
@@ -95,7 +73,7 @@ pub fn measure(config: u8, lines: &[f32], energies: &mut [f32], peaks: &mut [usi
     apply_energy_estimation(config, lines, energies, peaks);
     let flag = is_near_nyquist(config, energies);
     Measured {
-        number: 0,
+        number: refusals::ACCEPTED,
         index: 0,
         flag,
     }

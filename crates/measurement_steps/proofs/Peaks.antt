@@ -35,18 +35,18 @@ topped-more ls i j {b} {p} n h l e = subst (λ (k : ℕ). Topped ls k (higher b 
     at : p ≡ getD sq i nan
     at = e ∙ sym (getD-map square ls i nan nan l)
 
-    held : b .greatest ≡ getD sq (b .peak) nan
-    held = h .product ∙ ap (λ (k : ℕ). getD sq k nan) (sym (h .place))
+    product-is : b .greatest ≡ getD sq (b .peak) nan
+    product-is = h .product ∙ ap (λ (k : ℕ). getD sq k nan) (sym (h .place))
 
     taken : lt (b .greatest) p ≡ true → Topped ls (i + 1) (higher b i p)
     taken t =
-        let q = scan-takes sq (b .peak) i (b .greatest) (h .place) held (ap (lt (b .greatest)) (sym at) ∙ t) in
+        let q = scan-takes sq (b .peak) i (b .greatest) (h .place) product-is (ap (lt (b .greatest)) (sym at) ∙ t) in
         record { place = rw t q; product = rw t (at ∙ ap (λ (k : ℕ). getD sq k nan) q) }
 
     left : lt (b .greatest) p ≡ false → Topped ls (i + 1) (higher b i p)
     left t =
-        let q = scan-keeps sq (b .peak) i (b .greatest) (h .place) held (ap (lt (b .greatest)) (sym at) ∙ t) in
-        record { place = rw t q; product = rw t (held ∙ ap (λ (k : ℕ). getD sq k nan) q) }
+        let q = scan-keeps sq (b .peak) i (b .greatest) (h .place) product-is (ap (lt (b .greatest)) (sym at) ∙ t) in
+        record { place = rw t q; product = rw t (product-is ∙ ap (λ (k : ℕ). getD sq k nan) q) }
 
 -- what a band has come to, by its parts
 pub comes-to : (w : Float) (ls : List Float) (n : ℕ) (b : Reading) → Summed (shareBy w) zero32 ls n (b .energy) → Topped ls n b → b ≡ upTo w ls n

@@ -56,15 +56,15 @@ drop-pass n l a k h = rw (getD-drop n l k nan) (a (n + k) (omega (arith, length-
 -- r is what acc has come to
 record Sum (acc r : Float) : Type 0 where
   plus : Plus r
-  held : T (fits binary32 r)
+  fits-32 : T (fits binary32 r)
   over : (b : Float) → Plus b → T (lt b acc) → T (lt b r)
 
 summed : (acc : Float) (ys : List Float) → Plus acc → T (fits binary32 acc) → Pass ys → Sum acc (sumOf (λ x. x) acc ys)
-summed acc [] p t a = record { plus = p; held = t; over = λ b q h. h }
+summed acc [] p t a = record { plus = p; fits-32 = t; over = λ b q h. h }
 summed acc (y ∷ ys) p t a =
     let g = grows acc y p t (holds (a 0 (omega arith))) in
     let s = summed (add binary32 acc y) ys (g .plus) (add-fits binary32 acc y) (λ k h. a (suc k) (omega arith)) in
-    record { plus = s .plus; held = s .held; over = λ b q h. s .over b q (beyond b q p g h) }
+    record { plus = s .plus; fits-32 = s .fits-32; over = λ b q h. s .over b q (beyond b q p g h) }
 
 from-zero : (l : List Float) → Pass l → Sum zero32 (total l)
 unfolding total ofBits
@@ -76,7 +76,7 @@ unfolding total
 goes-on b n l q fit a h =
     let s = from-zero (take n l) (take-pass n l fit a) in
     let whole : sumOf (λ x. x) (total (take n l)) (drop n l) ≡ total l = sym (sum-on (λ x. x) zero32 (take n l) (drop n l)) ∙ ap total (take-append-drop n l) in
-    subst (λ (x : Float). T (lt b x)) whole (summed (total (take n l)) (drop n l) (s .plus) (s .held) (drop-pass n l a) .over b q h)
+    subst (λ (x : Float). T (lt b x)) whole (summed (total (take n l)) (drop n l) (s .plus) (s .fits-32) (drop-pass n l a) .over b q h)
 
 -- nothing that has the sign plus is below zero
 not-below : (b : Float) → Plus b → lt b zero32 ≡ false

@@ -8,7 +8,7 @@ use lib.Ieee.{Float, binary32, ofBits, mul, lt}
 use Rattle.laws.specs.Lists.{tab, first}
 use Rattle.laws.specs.Passes.{passes7}
 use Rattle.config.specs.Config.{valid, nb, rate, upper}
-use Rattle.config.specs.Refusals.{accepted, badConfig, badEnergies, badEnergy}
+use Rattle.refusals.specs.Refusals.{accepted, judged}
 use Rattle.measurement_steps.specs.Energy.{total}
 use Rattle.near_nyquist.specs.declared.Asked.{Asked}
 
@@ -43,10 +43,7 @@ abbrev pub refusal : ℕ → ℕ → Asked
 refusal number index = record { number = number; index = index; answer = false; read = 0 }
 
 unfoldable pub asked : ℕ → List Float → Asked
-asked c es =
-    cond (not (valid c)) (refusal badConfig 0)
-    (cond (not (eqb (length es) (nb c))) (refusal badEnergies 0)
-    (cond (eqb (first passes7 es) (length es)) (answer c es) (refusal badEnergy (first passes7 es))))
+asked c es = judged refusal (answer c es) c es
 
 -- ---- for the promises
 -- the running sum of the upper bands with band b as the last

@@ -47,7 +47,7 @@ fn told(answer: bool, read: usize) -> Asked
     ensures { λ r. ⌜ r ≡ told answer read ⌝ }
 {
     Asked {
-        number: 0,
+        number: refusals::ACCEPTED,
         index: 0,
         answer,
         read,
@@ -85,15 +85,9 @@ fn answer(c: u8, energies: &[f32]) -> Asked
 pub fn near_nyquist(config: u8, energies: &[f32]) -> Asked
     ensures { λ r. ⌜ r ≡ asked config (now (energies .entry)) ⌝ }
 {
-    if !config::valid(config) {
-        return refused(1, 0);
-    }
-    if energies.len() != config::nb(config) {
-        return refused(5, 0);
-    }
-    let failing = laws::first_failing_7(energies);
-    if failing < energies.len() {
-        return refused(7, failing);
+    let v = refusals::on_energies(config, energies);
+    if v.number != refusals::ACCEPTED {
+        return refused(v.number, v.index);
     }
     answer(config, energies)
 }

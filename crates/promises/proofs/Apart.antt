@@ -18,7 +18,7 @@ use Rattle.config.specs.Config.{valid, row, nf, nb, half, edges}
 use Rattle.analysis_lines.specs.Lines.{timeBuffer, linesOf}
 use Rattle.analysis.specs.declared.Channel.{Channel}
 use Rattle.analysis.specs.Analysis as frame
-use Rattle.analysis.specs.Analysis.{Lent, held, number, framed, frames, lent}
+use Rattle.analysis.specs.Analysis.{Lent, channelPast, number, framed, frames, lent}
 use Rattle.analysis.proofs.Frames.{passed}
 use Rattle.measurement.specs.Measurement as measurement
 use Rattle.measurement_steps.specs.Energy.{share, energy, bandOf, energies, total, exceeds}
@@ -62,7 +62,7 @@ module _ (a : Channel) (x : combined.Lent) (p : List ℕ) where
   own = lent (x .input) (x .lines)
 
   abbrev lines : List Float
-  lines = linesOf c (held a) (x .input)
+  lines = linesOf c (channelPast a) (x .input)
 
   abbrev next : measurement.Lent
   next = measurement.lent lines (x .energies) p
@@ -103,7 +103,7 @@ module _ (a : Channel) (x : combined.Lent) (p : List ℕ) where
   unfolding linesOf
   second-number e =
       let v = passed c own e .0 in
-      rw (is-true (valid c) v, eq-eqb (length lines) (nf c) (length-mdct c v (timeBuffer c (held a) (x .input))))
+      rw (is-true (valid c) v, eq-eqb (length lines) (nf c) (length-mdct c v (timeBuffer c (channelPast a) (x .input))))
 
   in-turn : inTurn a x p .0 .number ≡ 0 → inTurn a x p ≡ old a x (peaksOf c lines)
   unfolding frames
@@ -196,7 +196,7 @@ apart =
       in-turn = in-turn;
       lines-pass = accepted Pass pass-each;
       lines-pass-after = from-clear Pass (accepted Pass pass-each);
-      never-6 = accepted Never6 (λ a v s x i e p. never-6 (a .config) (linesOf (a .config) (held a) x) e p (pass-each a v s x i));
+      never-6 = accepted Never6 (λ a v s x i e p. never-6 (a .config) (linesOf (a .config) (channelPast a) x) e p (pass-each a v s x i));
       accepts-alike = λ a s x i p l. accepts-alike a x p s i l;
       first-refused = first-refused;
       second-refused = second-refused;

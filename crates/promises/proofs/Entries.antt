@@ -3,7 +3,7 @@ use mathlib.Core.Path.{_≡_, refl, sym, ap, _∙_}
 use base.Logic.{ent, emp, id⊢, sep, fst∗, via}
 use contract.Monad.{conj, conjL, conjR, conj-mono, fact, factI, fact-use}
 use borrow.Fn.World.{World, Pr}
-use Rattle.config.specs.declared.Verdict.{Verdict}
+use Rattle.refusals.specs.declared.Verdict.{Verdict}
 use Rattle.kissfft.specs.Fft as kissfft
 use Rattle.dct_iv.specs.DctIv as dct
 use Rattle.analysis.specs.declared.Channel as analysisChannel
@@ -147,7 +147,7 @@ entries w =
       plan-180 = (λ κs a. free w, λ κs a g x y. returns w x y refl);
       plan-240 = (λ κs a. free w, λ κs a g x y. returns w x y refl);
       fft = (λ κs a. free w, λ κs a g x y. once w (λ (o : kissfft.Answer). (o .judged, (tt, (tt, (tt, (tt, (o .re, (o .im, tt)))))))));
-      dct-iv = (λ κs a. free w, λ κs a g x y. once w (λ (o : dct.Answer). (o .judged, (tt, (o .held, tt)))));
+      dct-iv = (λ κs a. free w, λ κs a g x y. once w (λ (o : dct.Answer). (o .judged, (tt, (o .buf, tt)))));
       silence-300 = (λ κs a. free w, λ κs a g x y. returns w x y refl);
       scale = (λ κs a. free w, λ κs a g x y. once w (λ l. (tt, (l, (tt, tt)))));
       total = (λ κs a. free w, λ κs a g x y. returns w x y refl);
@@ -190,7 +190,7 @@ entries w =
       fresh = (λ κs a. free w, λ κs a g x y. returns w x y refl);
       made = (λ κs a. free w, λ κs a g x y. returns w x y refl);
       c-fft = (λ κs a. free w, λ κs a g x y. once w (λ (o : kissfft.Answer). (o .judged, (tt, (tt, (tt, (tt, (o .re, (o .im, tt)))))))));
-      c-dct-iv = (λ κs a. free w, λ κs a g x y. once w (λ (o : dct.Answer). (o .judged, (tt, (o .held, tt)))));
+      c-dct-iv = (λ κs a. free w, λ κs a g x y. once w (λ (o : dct.Answer). (o .judged, (tt, (o .buf, tt)))));
       c-analysis-clear = (λ κs a. free w, λ κs a g x y. returns w x y refl);
       c-analysis-frame = (λ κs a. free w, λ κs a g x y. once′ w (λ (o : analysis.Given × analysisChannel.Channel). (analysis-framed o, (tt, (tt, (o .0 .lines, tt))))));
       c-analysis-frame-at = (λ κs a. free w, λ κs a g x y. once′ w (λ (o : analysis.Given × analysisChannel.Channel). (o .0 .number, (tt, (o .1 .samples, (tt, (o .0 .lines, tt)))))));

@@ -12,7 +12,7 @@ use Rattle.laws.specs.Lists.{tab, first}
 use Rattle.laws.specs.Passes.{passes6, passes7}
 use Rattle.config.specs.Config.{valid, nb, row, edges}
 use Rattle.config.specs.Tables.{rows, edgeRows}
-use Rattle.config.specs.Refusals.{badConfig, badEnergies, badEnergy}
+use Rattle.refusals.specs.Refusals.{badConfig, badEnergies, badEnergy}
 use Rattle.kf_work.specs.Work.{plan}
 use Rattle.analysis_steps.specs.Buffer.{pastOf, bufferStep}
 use Rattle.analysis_steps.specs.Fold.{weighed, foldLow, foldHigh, folded}

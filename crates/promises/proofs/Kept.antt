@@ -6,7 +6,7 @@ use mathlib.Core.Option.{Option, some, none, Option·none-ne-some, Option·some-
 use mathlib.Core.List.{List}
 use lib.Dec.{eqb}
 use Rattle.bounds.specs.Within as within
-use Rattle.promises.specs.Sequence.{Kind, Call, clear, frame, clears, held, after}
+use Rattle.promises.specs.Sequence.{Kind, Call, clear, frame, clears, handedOn, after}
 
 -- P of channels, where every call has Q
 module _ (k : Kind) (P : k .Channel → Type 0) (Q : Call (k .Lent) → Type 0)
@@ -18,7 +18,7 @@ module _ (k : Kind) (P : k .Channel → Type 0) (Q : Call (k .Lent) → Type 0)
       go true e = subst P (Option·some-injective (k .cleared c .1) a e) (cleared c)
       go false e = absurd (Option·none-ne-some a e)
 
-  one : (a : k .Channel) → P a → (q : Call (k .Lent)) → Q q → P (held k a q)
+  one : (a : k .Channel) → P a → (q : Call (k .Lent)) → Q q → P (handedOn k a q)
   one a p (clear c) h = go (clears k c) refl
     where
       go : (o : Option (k .Channel)) → clears k c ≡ o → P (elim o [ some new ↦ new | none ↦ a ])
@@ -28,7 +28,7 @@ module _ (k : Kind) (P : k .Channel → Type 0) (Q : Call (k .Lent) → Type 0)
 
   all : (a : k .Channel) → P a → {qs : List (Call (k .Lent))} → within.Each Q qs → P (after k a qs)
   all a p within.none = p
-  all a p (within.also {x = q} h hs) = all (held k a q) (one a p q h) hs
+  all a p (within.also {x = q} h hs) = all (handedOn k a q) (one a p q h) hs
 
   pub kept : (c : ℕ) (a : k .Channel) → clears k c ≡ some a → {qs : List (Call (k .Lent))} → within.Each Q qs → P (after k a qs)
   kept c a e h = all a (given c a e) h

@@ -8,7 +8,7 @@ use mathlib.Core.List.{List, [], _∷_}
 use lib.Dec.{T, eqb, eqb→eq}
 use lib.ListN.{length}
 use Rattle.config.specs.Config.{valid}
-use Rattle.promises.specs.Sequence.{Kind, Call, clear, frame, Past, fresh, clears, accepts, held, after, recalled, recall, gives, defined, refuses, Idle, Shared, over, both, one-refused, other-refused, Agree, Demand3}
+use Rattle.promises.specs.Sequence.{Kind, Call, clear, frame, Past, fresh, clears, accepts, handedOn, after, recalled, recall, gives, defined, refuses, Idle, Shared, over, both, one-refused, other-refused, Agree, Demand3}
 
 -- f is the own list of a frame that configuration c accepts, where frames have `size c` places
 pub record Fits {A : Type 0} (size : ℕ → ℕ) (c : ℕ) (f : List A) : Type 0 where
@@ -117,17 +117,17 @@ module _ (k : Kind) (l : Lawful k) where
           ∙ good-read (p .config) (p .before) (h .good) (k .own x)
       go (suc n) = ap (λ (r : k .Given × k .Channel). r .0) (l .frame-refused n a x)
 
-  -- the channel held after a clear, by what the clear gives
+  -- the channel handed on after a clear, by what the clear gives
   pick : k .Channel → Option (k .Channel) → k .Channel
   pick a o = elim o [ some new ↦ new | none ↦ a ]
 
-  held-new : (a : k .Channel) (c : ℕ) → T (valid c) → held k a (clear c) ≡ l .new c
+  handedOn-new : (a : k .Channel) (c : ℕ) → T (valid c) → handedOn k a (clear c) ≡ l .new c
   unfolding pick
-  held-new a c v = ap (pick a) (clears-new c v)
+  handedOn-new a c v = ap (pick a) (clears-new c v)
 
-  held-old : (a : k .Channel) (c : ℕ) → T (not (valid c)) → held k a (clear c) ≡ a
+  handedOn-old : (a : k .Channel) (c : ℕ) → T (not (valid c)) → handedOn k a (clear c) ≡ a
   unfolding pick
-  held-old a c n = ap (pick a) (clears-none c n)
+  handedOn-old a c n = ap (pick a) (clears-none c n)
 
   holds-new : (c : ℕ) → T (valid c) → Holds (l .new c) (fresh c)
   holds-new c v = record { config = l .new-config c; kept = l .new-kept c; good = v }
@@ -139,12 +139,12 @@ module _ (k : Kind) (l : Lawful k) where
       (record { config = l .frame-config a x; kept = l .frame-kept a x f; good = f })
 
   -- ---- a sequence of calls: each keeps the invariant
-  step : (a : k .Channel) (p : Past (k .Value)) → Holds a p → (q : Call (k .Lent)) → Holds (held k a q) (recalled k p q)
+  step : (a : k .Channel) (p : Past (k .Value)) → Holds a p → (q : Call (k .Lent)) → Holds (handedOn k a q) (recalled k p q)
   step a p h (clear c) = go (valid c) (λ v. v) (λ v. v)
     where
-      go : (b : Bool) → (T b → T (valid c)) → (T (not b) → T (not (valid c))) → Holds (held k a (clear c)) (elim b [ true ↦ fresh c | false ↦ p ])
-      go true v n = subst (λ (d : k .Channel). Holds d (fresh c)) (sym (held-new a c (v tt))) (holds-new c (v tt))
-      go false v n = subst (λ (d : k .Channel). Holds d p) (sym (held-old a c (n tt))) h
+      go : (b : Bool) → (T b → T (valid c)) → (T (not b) → T (not (valid c))) → Holds (handedOn k a (clear c)) (elim b [ true ↦ fresh c | false ↦ p ])
+      go true v n = subst (λ (d : k .Channel). Holds d (fresh c)) (sym (handedOn-new a c (v tt))) (holds-new c (v tt))
+      go false v n = subst (λ (d : k .Channel). Holds d p) (sym (handedOn-old a c (n tt))) h
   step a p h (frame x) = go (accepts k (p .config) x) (λ t. t) (λ t. t)
     where
       back : (f : Bool → Bool) → T (f (accepts k (p .config) x)) → T (f (accepts k (k .config a) x))
@@ -157,11 +157,11 @@ module _ (k : Kind) (l : Lawful k) where
 
   steps : (a : k .Channel) (p : Past (k .Value)) → Holds a p → (qs : List (Call (k .Lent))) → Holds (after k a qs) (recall k p qs)
   steps a p h [] = h
-  steps a p h (q ∷ qs) = steps (held k a q) (recalled k p q) (step a p h q) qs
+  steps a p h (q ∷ qs) = steps (handedOn k a q) (recalled k p q) (step a p h q) qs
 
   -- a refused call leaves the channel
-  stays : (a : k .Channel) (q : Call (k .Lent)) → T (refuses k (k .config a) q) → held k a q ≡ a
-  stays a (clear d) t = held-old a d t
+  stays : (a : k .Channel) (q : Call (k .Lent)) → T (refuses k (k .config a) q) → handedOn k a q ≡ a
+  stays a (clear d) t = handedOn-old a d t
   stays a (frame x) t = left a x t
 
   idle : (a : k .Channel) (qs : List (Call (k .Lent))) → Idle k (k .config a) qs → after k a qs ≡ a
@@ -201,7 +201,7 @@ module _ (k : Kind) (l : Lawful k) where
       subst (λ (m : List (k .Value)). Holds (k .frames a f .1) (record { config = c; before = some m })) o
       (subst (λ (d : ℕ). Holds (k .frames a f .1) (record { config = d; before = some (k .own f) })) e (holds-taken a f (subst (λ (d : ℕ). T (accepts k d f)) (sym e) t)))
 
-  stays-at : (a : k .Channel) (c : ℕ) → k .config a ≡ c → (q : Call (k .Lent)) → T (refuses k c q) → held k a q ≡ a
+  stays-at : (a : k .Channel) (c : ℕ) → k .config a ≡ c → (q : Call (k .Lent)) → T (refuses k c q) → handedOn k a q ≡ a
   stays-at a c e q t = stays a q (subst (λ (d : ℕ). T (refuses k d q)) (sym e) t)
 
   shared : (c : ℕ) {qs rs : List (Call (k .Lent))} → Shared k c qs rs
@@ -223,7 +223,7 @@ module _ (k : Kind) (l : Lawful k) where
   demand3 =
       record {
         by-definition = λ c a e qs x. answers (after k a qs) (recall k (fresh c) qs) (steps a (fresh c) (accepted-clear c a e) qs) x;
-        first = λ a c v qs i x. ap (λ (d : k .Channel). k .frames (after k d qs) x .0) (held-new a c v) ∙ idle-answers (l .new c) (fresh c) (holds-new c v) qs i x;
+        first = λ a c v qs i x. ap (λ (d : k .Channel). k .frames (after k d qs) x .0) (handedOn-new a c v) ∙ idle-answers (l .new c) (fresh c) (holds-new c v) qs i x;
         second = λ a f t qs i x. idle-answers (k .frames a f .1) (record { config = k .config a; before = some (k .own f) }) (holds-taken a f t) qs i x;
         refused = idle;
         agreement = λ a b e f g o s t qs rs r.

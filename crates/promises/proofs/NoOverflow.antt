@@ -17,12 +17,12 @@ use Rattle.laws.specs.Numbers.{zero32}
 use Rattle.laws.specs.Passes.{passes6, passes7}
 use Rattle.laws.proofs.Lists.{length-tab, first-none, first-le, first-all}
 use Rattle.config.specs.Config.{valid, nf, z, ne, nb}
-use Rattle.config.specs.declared.Verdict.{Verdict}
+use Rattle.refusals.specs.declared.Verdict.{Verdict}
 use Rattle.analysis_steps.specs.Buffer.{pastOf, bufferStep, bufferOf}
 use Rattle.measurement_steps.specs.Energy.{energies}
 use Rattle.analysis_lines.specs.Lines.{timeBuffer, linesOf}
 use Rattle.analysis.specs.declared.Channel.{Channel}
-use Rattle.analysis.specs.Analysis.{Lent, Given, keptOf, held, clearing, cleared, number, framed, frames, lent}
+use Rattle.analysis.specs.Analysis.{Lent, Given, keptOf, channelPast, clearing, cleared, number, framed, frames, lent}
 use Rattle.measurement.specs.Measurement as measurement
 use Rattle.measurement.specs.Measurement.{energiesOf, measures}
 use Rattle.measurement.proofs.Verdicts as verdicts
@@ -57,7 +57,7 @@ zeros n = each-replicate n (pos 0) (record { sfits = lit< tt })
 abbrev Held : Channel → Type 0
 Held a = Each Sample (a .samples)
 
-past-each : (a : Channel) → Held a → Each Sample (held a)
+past-each : (a : Channel) → Held a → Each Sample (channelPast a)
 past-each a h = each-tab (nf (a .config) - z (a .config)) (λ k. getD (a .samples) k (pos 0)) (λ k l. each-or (pos 0) k (record { sfits = lit< tt }) h)
 
 buffer-each : (c : ℕ) {past x : List ℤ} → Each Sample past → Each Sample x → Each Sample (timeBuffer c past x)
@@ -78,7 +78,7 @@ frame-held a x s h = go (number (a .config) x)
 
 -- ---- analysis: of the lines that a call on such a channel gives, where it is not refused
 abbrev Taken : (ℕ → List Float → Type 0) → Type 0
-Taken P = (a : Channel) → T (valid (a .config)) → Held a → (x : List ℤ) → Each Sample x → P (a .config) (linesOf (a .config) (held a) x)
+Taken P = (a : Channel) → T (valid (a .config)) → Held a → (x : List ℤ) → Each Sample x → P (a .config) (linesOf (a .config) (channelPast a) x)
 
 pub accepted : (P : ℕ → List Float → Type 0) → Taken P → OnAny P
 unfolding frames
@@ -110,7 +110,7 @@ all-pass l h = first-none passes6 l nan (λ k b. is-true _ (each-at nan k h b))
 
 energies-each : Taken Energies
 unfolding linesOf
-energies-each a v s x i = energies-bound 30 (lit≤ tt) (a .config) v _ (length-mdct (a .config) v (timeBuffer (a .config) (held a) x)) (lines-each a v s x i)
+energies-each a v s x i = energies-bound 30 (lit≤ tt) (a .config) v _ (length-mdct (a .config) v (timeBuffer (a .config) (channelPast a) x)) (lines-each a v s x i)
 
 -- the loudest band takes them: as many as the configuration has bands, and all pass 7
 hears : (c : ℕ) → T (valid c) → (l : List Float) → Each (λ x. T (passes7 x)) (energiesOf c l) → paper (heard c (energiesOf c l)) .number ≡ 0
@@ -121,7 +121,7 @@ hears c v l a =
     rw (is-true (valid c) v, eq-eqb (length (energiesOf c l)) (nb c) n, eq-eqb (first passes7 (energiesOf c l)) (length (energiesOf c l)) (sym all))
 
 hears-each : Taken Hears
-hears-each a v s x i = hears (a .config) v (linesOf (a .config) (held a) x) (each-weaken (λ x h. h .0) (energies-each a v s x i))
+hears-each a v s x i = hears (a .config) v (linesOf (a .config) (channelPast a) x) (each-weaken (λ x h. h .0) (energies-each a v s x i))
 
 -- ---- the listing's frames
 sample-signed : (n : ℕ) → Sample (signed n)
@@ -157,7 +157,7 @@ abbrev lends : Channel → List ℤ → Lent
 lends a x = lent x (zeros32 (nf (a .config)))
 
 abbrev next : Channel → List ℤ → measurement.Lent
-next a x = measurement.lent (linesOf (a .config) (held a) x) (zeros32 (nb (a .config))) (replicate (nb (a .config)) 0)
+next a x = measurement.lent (linesOf (a .config) (channelPast a) x) (zeros32 (nb (a .config))) (replicate (nb (a .config)) 0)
 
 takes : (a : Channel) → T (valid (a .config)) → (x : List ℤ) → length x ≡ nf (a .config) → frames a (lends a x) ≡ framed 0 a (lends a x)
 unfolding frames
@@ -169,7 +169,7 @@ measure-takes : (a : Channel) → T (valid (a .config)) → Held a → (x : List
 unfolding measures linesOf
 measure-takes a v s x i =
     let c = a .config in
-    let l = length-mdct c v (timeBuffer c (held a) x) in
+    let l = length-mdct c v (timeBuffer c (channelPast a) x) in
     let p = verdicts.says-0 c (next a x) refl (ap not (is-true (valid c) v)) l (length-replicate (nb c) zero32) (length-replicate (nb c) 0) refl (le-of-eq (all-pass _ (pass-each a v s x i))) in
     ap (λ (w : Verdict). measurement.measured (w .number) c (next a x)) (sym p)
 

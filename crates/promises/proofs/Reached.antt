@@ -11,13 +11,15 @@ use Rattle.config.specs.Tables.{rows, edgeRows}
 use Rattle.config.specs.Config.{row, half, edges}
 use Rattle.windows.specs.Tables.{entries}
 use Rattle.windows.specs.Windows as windows
-use Rattle.twiddles.specs.Tables.{sizes, fftReBits, fftImBits, dctReBits, dctImBits, gainBits}
-use Rattle.twiddles.specs.Twiddles.{start, fftRe, fftIm, fftImOf, dctRe, dctIm, twiddle, dctTwiddle, gain}
+use Rattle.twiddles.specs.Tables.{sizes, fftReBits, fftImBits, dctReBits, dctImBits}
+use Rattle.twiddles.specs.Twiddles.{start, fftRe, fftIm, fftImOf, dctRe, dctIm, twiddle, dctTwiddle}
 use Rattle.butterflies.specs.Butterflies.{stage, column2, column3, column5}
 use Rattle.kf_work.specs.Work.{plan, column, work, spectrum}
 use Rattle.dct_steps.specs.Dct.{dctIv}
 use Rattle.analysis_steps.specs.Buffer.{pastOf, bufferStep, bufferOf}
-use Rattle.analysis_steps.specs.Fold.{weighed, foldLow, foldHigh, folded, gained}
+use Rattle.analysis_steps.specs.Fold.{weighed, foldLow, foldHigh, folded}
+use Rattle.gains.specs.Tables.{lengths, gainBits}
+use Rattle.gains.specs.Gains.{gain, scaled}
 use Rattle.measurement_steps.specs.Energy.{share, energy, bandOf, energies}
 use Rattle.analysis_lines.specs.Lines.{timeBuffer, mdct, linesOf}
 use Rattle.analysis.specs.Analysis.{cleared, frames}
@@ -37,5 +39,5 @@ not-within a (inf s) t h = h
 not-within a (fin s m e) t h = lt-irrefl (a * down e) (lt-of-lt-of-le (ltb→lt (a * down e) (m * up e * 1) t) h)
 
 pub reached : Reached
-unfolding cleared frames linesOf mdct timeBuffer bufferStep pastOf bufferOf gained folded foldLow foldHigh weighed dctIv spectrum work column column2 column3 column5 stage plan twiddle fftImOf fftRe fftIm dctTwiddle dctRe dctIm gain start sizes fftReBits fftImBits dctReBits dctImBits gainBits windows.window windows.start entries row rows half tab ofBits ofFields odd trailingZeros units round neg sum add sub mul div ofInt energiesOf energies bandOf energy share edges edgeRows
+unfolding cleared frames linesOf mdct timeBuffer bufferStep pastOf bufferOf scaled folded foldLow foldHigh weighed dctIv spectrum work column column2 column3 column5 stage plan twiddle fftImOf fftRe fftIm dctTwiddle dctRe dctIm gain start sizes fftReBits fftImBits dctReBits dctImBits gainBits windows.window windows.start entries row rows half tab ofBits ofFields odd trailingZeros units round neg sum add sub mul div ofInt energiesOf energies bandOf energy share edges edgeRows
 reached = record { line-above = not-within (2 ^ 16) line0 tt; energy-above = not-within (2 ^ 32) energy0 tt; square-is = refl; column-is = refl }

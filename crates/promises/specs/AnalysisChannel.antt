@@ -6,7 +6,7 @@ use lib.IntN.{ℤ, pos}
 use lib.ListN.{drop, replicate}
 use lib.Ieee.{Float}
 use Rattle.config.specs.Config.{nf, z}
-use Rattle.config.specs.Refusals as refusals
+use Rattle.refusals.specs.Refusals as refusals
 use Rattle.analysis.specs.declared.Channel.{Channel}
 use Rattle.analysis_lines.specs.Lines.{mdct}
 use Rattle.analysis.specs.Analysis.{Lent, Given, number, cleared, frames}

@@ -13,10 +13,10 @@ use lib.Ieee.{Float, binary32, ofBits}
 use Rattle.laws.specs.Numbers.{zero32}
 use Rattle.laws.specs.Passes.{passes6}
 use Rattle.config.specs.Config.{nb}
-use Rattle.config.specs.Refusals as refusals
+use Rattle.refusals.specs.Refusals as refusals
 use Rattle.analysis.specs.declared.Channel.{Channel}
 use Rattle.analysis_lines.specs.Lines.{linesOf}
-use Rattle.analysis.specs.Analysis.{Lent, frames, held, keptOf, channelOf, lent}
+use Rattle.analysis.specs.Analysis.{Lent, frames, channelPast, keptOf, channelOf, lent}
 use Rattle.measurement.specs.Measurement as measurement
 use Rattle.measurement.specs.Measurement.{peaksOf, refusedBy, measures}
 use Rattle.bounds.specs.Within.{Each}
@@ -61,8 +61,8 @@ old a x p = aged p (combined.frames a x)
 -- an accepted frame whose measurement is refused by 5: its lines are written and its channel has moved on, and the rooms of the measurement are as they were
 abbrev pub unmeasured : Channel → combined.Lent → List ℕ → Given × Channel
 unmeasured a x p = (
-  record { number = refusals.badEnergies; index = 0; flag = false; lines = linesOf (a .config) (held a) (x .input); energies = x .energies; peaks = p },
-  channelOf (a .config) (keptOf (a .config) (held a) (x .input)),
+  record { number = refusals.badEnergies; index = 0; flag = false; lines = linesOf (a .config) (channelPast a) (x .input); energies = x .energies; peaks = p },
+  channelOf (a .config) (keptOf (a .config) (channelPast a) (x .input)),
 )
 
 -- all of some lines pass 6, at any configuration
@@ -89,7 +89,7 @@ pub record Apart : Type 0 where
   -- "doing both in turn .. equals the old answer where both accept": number, flag, lines, energies, and the whole channel; of any channel and any frame. Beside it
   -- stand the peaks of its lines.
   pub in-turn : (a : Channel) (x : combined.Lent) (p : List ℕ) → inTurn a x p .0 .number ≡ refusals.accepted
-      → inTurn a x p ≡ old a x (peaksOf (a .config) (linesOf (a .config) (held a) (x .input)))
+      → inTurn a x p ≡ old a x (peaksOf (a .config) (linesOf (a .config) (channelPast a) (x .input)))
   -- "every line the first call gives, on any samples and any past, is shown to pass 6": of any channel, and after any calls from a clear.
   pub lines-pass : OnAny Pass
   pub lines-pass-after : FromClear Pass

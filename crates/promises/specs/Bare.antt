@@ -9,8 +9,8 @@ use lib.Ieee.{Float}
 use Rattle.laws.specs.Lists.{first}
 use Rattle.laws.specs.Passes.{passes6}
 use Rattle.config.specs.Config.{valid, nf, nb}
-use Rattle.config.specs.Refusals as refusals
-use Rattle.config.specs.declared.Verdict.{Verdict}
+use Rattle.refusals.specs.Refusals as refusals
+use Rattle.refusals.specs.declared.Verdict.{Verdict}
 use Rattle.measurement.specs.Measurement.{energiesOf, flagOf}
 
 -- what a call is lent

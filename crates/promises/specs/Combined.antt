@@ -8,10 +8,10 @@ use lib.Dec.{eqb}
 use lib.ListN.{length}
 use lib.Ieee.{Float}
 use Rattle.config.specs.Config.{valid, nf, nb}
-use Rattle.config.specs.Refusals as refusals
+use Rattle.refusals.specs.Refusals as refusals
 use Rattle.analysis_lines.specs.Lines.{linesOf}
 use Rattle.analysis.specs.declared.Channel.{Channel}
-use Rattle.analysis.specs.Analysis.{keptOf, channelOf, held}
+use Rattle.analysis.specs.Analysis.{keptOf, channelOf, channelPast}
 use Rattle.measurement.specs.Measurement.{energiesOf, flagOf}
 
 -- what a call was lent
@@ -49,7 +49,7 @@ accepted c past x = (
 
 -- a refused call wrote nothing, and its channel was the one handed in
 abbrev pub framed : ℕ → Channel → Lent → Given × Channel
-framed zero ch x = accepted (ch .config) (held ch) (x .input)
+framed zero ch x = accepted (ch .config) (channelPast ch) (x .input)
 framed (suc n) ch x = (record { number = suc n; flag = false; lines = x .lines; energies = x .energies }, ch)
 
 -- what a frame did, on any channel

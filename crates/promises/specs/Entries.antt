@@ -68,7 +68,7 @@ use Rattle.twiddles.proofs.dct_120
 use Rattle.twiddles.proofs.dct_160
 use Rattle.twiddles.proofs.dct_180
 use Rattle.twiddles.proofs.dct_240
-use Rattle.twiddles.proofs.gain
+use Rattle.gains.proofs.gain
 use Rattle.twiddles.proofs.negate
 use Rattle.columns.proofs.two
 use Rattle.columns.proofs.three
@@ -359,7 +359,7 @@ pub record Cited (w : World) : Type 2 where
   pub fft : Says w fft.ended fft.clauses
       (λ κs a x. kissfft.left (x .0) (x .1 .1 .1 .1 .1 .0) (x .1 .1 .1 .1 .1 .1 .0) ≡ kissfft.answer (a .0) (a .1 .0) (now (a .1 .1 .0)) (now (a .1 .1 .1 .0)) (now (a .1 .1 .1 .1 .0)) (now (a .1 .1 .1 .1 .1 .0)))
   -- dct_iv: `dct_iv` gives `answer`
-  pub dct-iv : Says w dct_iv.ended dct_iv.clauses (λ κs a x. dct.left (x .0) (x .1 .1 .0) ≡ dct.answer (a .0) (now (a .1 .0)))
+  pub dct-iv : Says w dct_iv.ended dct_iv.clauses (λ κs a x. dct.outcome (x .0) (x .1 .1 .0) ≡ dct.answer (a .0) (now (a .1 .0)))
   -- analysis: `clear` gives `cleared`, `frame` gives `frames`, and so does `frame_at`, on the channel that is lent
   pub analysis-clear : Says w analysis-clear.ended analysis-clear.clauses (λ κs a x. x .0 ≡ analysis.cleared (a .0))
   pub analysis-frame : Says w analysis-frame.ended analysis-frame.clauses

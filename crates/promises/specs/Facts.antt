@@ -8,7 +8,7 @@ use lib.IntN.{ℤ, pos, negsuc}
 use lib.ListN.{getD, replicate}
 use lib.Ieee.{Float, binary32, ofInt, ofBits, add, nan}
 use Rattle.config.specs.Config.{edges}
-use Rattle.config.specs.Refusals.{accepted, badValue}
+use Rattle.refusals.specs.Refusals.{accepted, badValue}
 use Rattle.laws.specs.Passes.{passes6}
 use Rattle.kf_work.specs.Work.{plan}
 use Rattle.analysis_steps.specs.Buffer.{bufferStep}

@@ -12,7 +12,7 @@ use lib.Ieee.Exact.{HasValue}
 use Rattle.laws.specs.Numbers.{zero32}
 use Rattle.laws.specs.Passes.{passes6, passes7}
 use Rattle.config.specs.Config.{valid, nf, nb, edges}
-use Rattle.config.specs.Refusals.{badConfig, badEnergies, badEnergy}
+use Rattle.refusals.specs.Refusals.{badConfig, badEnergies, badEnergy}
 use Rattle.measurement_steps.specs.Energy.{bandOf}
 use Rattle.measurement.specs.Measurement.{energiesOf}
 use Rattle.bounds.specs.Within.{Each}

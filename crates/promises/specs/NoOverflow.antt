@@ -16,8 +16,8 @@ use Rattle.complex.specs.declared.Complex.{Complex}
 use Rattle.complex.specs.Complex.{parts}
 use Rattle.columns.specs.Column.{col, five}
 use Rattle.config.specs.Config.{valid, nf}
-use Rattle.config.specs.Refusals as refusals
-use Rattle.twiddles.specs.Circle.{finite}
+use Rattle.refusals.specs.Refusals as refusals
+use Rattle.laws.specs.Exact.{finite}
 use Rattle.analysis.specs.declared.Channel.{Channel}
 use Rattle.analysis.specs.Analysis.{Lent, cleared, frames, lent}
 use Rattle.measurement.specs.Measurement.{energiesOf}

@@ -8,7 +8,7 @@ use lib.Ieee.{Float, nan}
 use Rattle.laws.specs.Lists.{first}
 use Rattle.laws.specs.Passes.{passes7}
 use Rattle.config.specs.Config.{largest, nf, nb, edges}
-use Rattle.config.specs.Refusals.{accepted, badConfig, badEnergies, badEnergy, shortFile, badMark, badVersion, cutFrame}
+use Rattle.refusals.specs.Refusals.{accepted, badConfig, badEnergies, badEnergy, shortFile, badMark, badVersion, cutFrame}
 use Rattle.laws.specs.Greatest.{best}
 use Rattle.loudest.specs.Loudest.{products, silent, heard, ofLoud, ofQuiet, ofRefusal, paper}
 use Rattle.frame_file.specs.File.{lmf, byte, short, headerOf, recordOf}

@@ -9,7 +9,7 @@ use lib.Ieee.{Float, nan, binary32, ofBits, lt}
 use Rattle.laws.specs.Numbers.{zero32}
 use Rattle.laws.specs.Greatest.{First}
 use Rattle.config.specs.Config.{nb, edges}
-use Rattle.config.specs.Refusals as refusals
+use Rattle.refusals.specs.Refusals as refusals
 use Rattle.measurement_steps.specs.Energy.{bandOf}
 use Rattle.measurement_steps.specs.Peak.{square, squares, peak}
 use Rattle.measurement.specs.Measurement.{Lent, Given, refusedBy, measures, lent}

@@ -6,7 +6,7 @@ use mathlib.Core.Option.{Option, some, none}
 use mathlib.Core.List.{List, [], _∷_}
 use lib.Dec.{T, eqb}
 use Rattle.config.specs.Config.{valid}
-use Rattle.config.specs.Refusals as refusals
+use Rattle.refusals.specs.Refusals as refusals
 
 -- A kind of channel, by the definitions that the contracts of its `clear` and `frame` cite.
 pub record Kind : Type 1 where
@@ -52,13 +52,13 @@ module _ (k : Kind) where
   accepts c x = eqb (k .number c x) refusals.accepted
 
   -- each call is handed the channel as the last one gave it, and after a refused clear the one from before that clear
-  abbrev pub held : k .Channel → Call (k .Lent) → k .Channel
-  held a (clear c) = elim (clears c) [ some new ↦ new | none ↦ a ]
-  held a (frame x) = k .frames a x .1
+  abbrev pub handedOn : k .Channel → Call (k .Lent) → k .Channel
+  handedOn a (clear c) = elim (clears c) [ some new ↦ new | none ↦ a ]
+  handedOn a (frame x) = k .frames a x .1
 
   abbrev pub after : k .Channel → List (Call (k .Lent)) → k .Channel
   after a [] = a
-  after a (q ∷ qs) = after (held a q) qs
+  after a (q ∷ qs) = after (handedOn a q) qs
 
   -- ---- what is remembered of it: refused calls change nothing
   abbrev pub recalled : Past (k .Value) → Call (k .Lent) → Past (k .Value)

@@ -11,7 +11,7 @@ use Rattle.laws.specs.Numbers.{zero32}
 use Rattle.laws.specs.Lists.{first}
 use Rattle.laws.specs.Passes.{passes6, passes7}
 use Rattle.config.specs.Config.{largest, valid, configs, nf, nb, rate, upper}
-use Rattle.config.specs.Refusals.{accepted, badConfig, badEnergies, badEnergy}
+use Rattle.refusals.specs.Refusals.{accepted, badConfig, badEnergies, badEnergy}
 use Rattle.measurement.specs.Measurement.{energiesOf, flagOf}
 use Rattle.bounds.specs.Within.{Each}
 use Rattle.near_nyquist.specs.Sooner.{bound, upperSum, told, refusal, asked}

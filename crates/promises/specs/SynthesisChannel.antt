@@ -7,7 +7,7 @@ use lib.Dec.{T}
 use lib.ListN.{drop, take, replicate}
 use lib.Ieee.{Float}
 use Rattle.config.specs.Config.{nf, z}
-use Rattle.config.specs.Refusals as refusals
+use Rattle.refusals.specs.Refusals as refusals
 use Rattle.synthesis.specs.declared.Channel.{Channel}
 use Rattle.laws.specs.Numbers.{zero32}
 use Rattle.synthesis_samples.specs.Samples.{placesOf, samplesOf, memoryOf}

@@ -2,24 +2,27 @@
 use mathlib.Core.Path.{_≡_, refl, sym, ap, subst, _∙_}
 use mathlib.Core.Bool.{Bool, true, false, not, cond}
 use mathlib.Core.List.{List}
-use Prim.Native.Nat.{ℕ, zero, suc, _≤_, _<_}
+use Prim.Native.Nat.{ℕ, zero, suc}
 use native.Mathlib.Omega.{arith}
 use lib.Dec.{T, eqb, ltb}
 use lib.ListN.{length}
 use lib.Ieee.{Float}
-use borrow.Author.Tests.{not-true, not-false, eq-eqb, ne-eqb, eqb-true, lt-ltb, le-ltb}
+use borrow.Author.Tests.{not-true, not-false, eq-eqb, ne-eqb, eqb-true}
 use Rattle.laws.specs.Lists.{first}
 use Rattle.laws.specs.Passes.{passes6}
 use Rattle.config.specs.Config.{valid, nf, ne}
+use Rattle.refusals.specs.declared.Verdict.{Verdict}
+use Rattle.refusals.specs.Refusals.{onValues}
+use Rattle.refusals.proofs.Verdicts.{by-values}
 use Rattle.synthesis.specs.declared.Channel.{Channel}
 use Rattle.synthesis_samples.specs.Samples.{samplesOf}
-use Rattle.synthesis.specs.Synthesis.{keptOf, channelOf, held, clearing, cleared, Lent, Given, number, index, framed, frames}
+use Rattle.synthesis.specs.Synthesis.{keptOf, channelOf, channelPast, clearing, cleared, Lent, Given, number, index, framed, frames}
 
 pub clear-is : (c : ℕ) (b v : Bool) → v ≡ b → v ≡ valid c → cleared c ≡ clearing b c
 unfolding cleared
 clear-is c b v e f = ap (λ (a : Bool). clearing a c) (sym f ∙ e)
 
--- the number and the index, from the tests one after the other; v is what the code's test of the configuration gave, k what its search gave
+-- the number and the index, from the tests one after the other; v is what the code's test of the configuration gave
 module _ (c : ℕ) (x : Lent) {v : Bool} (e : v ≡ valid c) where
   pub says-1 : not v ≡ true → (1 ≡ number c x) × (0 ≡ index 1 x)
   says-1 h = (simp (sym e ∙ not-true v h), refl)
@@ -35,12 +38,11 @@ module _ (c : ℕ) (x : Lent) {v : Bool} (e : v ≡ valid c) where
       pub says-4 : (length (x .samples) ≡ nf c → ⊥) → (4 ≡ number c x) × (0 ≡ index 4 x)
       says-4 b = (simp (ok, eq-eqb _ _ a, ne-eqb _ _ b), refl)
 
-      module _ (b : length (x .samples) ≡ nf c) {k : ℕ} (f : k ≡ first passes6 (x .lines)) where
-        pub says-6 : k < length (x .lines) → (6 ≡ number c x) × (k ≡ index 6 x)
-        says-6 d = (simp (ok, eq-eqb _ _ a, eq-eqb _ _ b, lt-ltb _ _ (subst (λ (j : ℕ). j < length (x .lines)) f d)), f)
-
-        pub says-0 : length (x .lines) ≤ k → (0 ≡ number c x) × (0 ≡ index 0 x)
-        says-0 d = (simp (ok, eq-eqb _ _ a, eq-eqb _ _ b, le-ltb _ _ (subst (λ (j : ℕ). length (x .lines) ≤ j) f d)), refl)
+      pub says-rest : length (x .samples) ≡ nf c → {w : Verdict} → w ≡ onValues (x .lines) → (w .number ≡ number c x) × (w .index ≡ index (w .number) x)
+      says-rest b f =
+          let g = f ∙ by-values (x .lines) in
+          let n = ap (λ (w : Verdict). w .number) g in
+          (simp (ok, eq-eqb _ _ a, eq-eqb _ _ b) n, ap (λ (w : Verdict). w .index) g ∙ ap (λ (m : ℕ). index m x) (sym n))
 
 -- what a call that is not refused has passed
 pub record Passed (c : ℕ) (x : Lent) : Type 0 where
@@ -67,7 +69,7 @@ refused ch x (suc n) k e f h = ap (λ (m : ℕ). framed m ch x) (sym e) ∙ ap (
 
 -- a call that is not refused, and what it has made
 pub taken : (ch : Channel) (x : Lent) (n k : ℕ) {s m : List Float} → n ≡ number (ch .config) x → k ≡ index n x → n ≡ 0
-    → m ≡ keptOf (ch .config) (x .lines) → s ≡ samplesOf (ch .config) (held ch) (x .lines)
+    → m ≡ keptOf (ch .config) (x .lines) → s ≡ samplesOf (ch .config) (channelPast ch) (x .lines)
     → _≡_ {A = Given × Channel} (frames ch x) (record { number = n; index = k; samples = s }, channelOf (ch .config) m)
 unfolding frames
 taken ch x n k e f h p q =

@@ -11,12 +11,12 @@ use Rattle.config.specs.Config.{valid, nf, z, half, ne}
 use Rattle.config.proofs.Sound.{sound}
 use Rattle.windows.specs.Windows.{window}
 use Rattle.windows.proofs.Entries.{window-length}
-use Rattle.twiddles.specs.Twiddles.{gain}
+use Rattle.gains.specs.Gains.{gain}
 use Rattle.laws.specs.Numbers.{zero32}
 use Rattle.synthesis_steps.proofs.Lengths.{length-remains, length-output, last-output}
 use Rattle.synthesis_frame.proofs.Lengths.{length-places}
 use Rattle.synthesis_samples.specs.Samples.{placesOf, samplesOf, memoryOf}
-use Rattle.synthesis.specs.Synthesis.{keptOf, channelOf, held}
+use Rattle.synthesis.specs.Synthesis.{keptOf, channelOf, channelPast}
 
 module _ (c : ℕ) (v : T (valid c)) (x : List Float) (l : length x ≡ ne c) where
   length-placesOf : length (placesOf c x) ≡ 2 * nf c
@@ -33,7 +33,7 @@ module _ (c : ℕ) (v : T (valid c)) (x : List Float) (l : length x ≡ ne c) wh
   length-memoryOf = length-remains (nf c) (z c) (placesOf c x) early length-placesOf
 
   -- the past of a channel that keeps this frame: the memory that the frame left
-  pub next-past : held (channelOf c (keptOf c x)) ≡ memoryOf c x
+  pub next-past : channelPast (channelOf c (keptOf c x)) ≡ memoryOf c x
   unfolding keptOf
   next-past = tab-at (memoryOf c x) (replicate (300 - (nf c - z c)) zero32) zero32 (nf c - z c) length-memoryOf
 

@@ -8,8 +8,8 @@ use lib.Ieee.{Float}
 use Rattle.laws.specs.Lists.{tab, first}
 use Rattle.laws.specs.Passes.{passes6}
 use Rattle.config.specs.Config.{valid, nf, z, ne}
-use Rattle.config.specs.declared.Verdict.{Verdict}
-use Rattle.config.specs.Refusals as refusals
+use Rattle.refusals.specs.declared.Verdict.{Verdict}
+use Rattle.refusals.specs.Refusals as refusals
 use Rattle.laws.specs.Numbers.{zero32}
 use Rattle.synthesis_samples.specs.Samples.{samplesOf, memoryOf}
 use Rattle.synthesis.specs.declared.Channel.{Channel}
@@ -27,8 +27,8 @@ abbrev pub channelOf : ℕ → List Float → Channel
 channelOf c m = record { config = c; memory = m }
 
 -- its past: the first nf - z places of its memory
-abbrev pub held : Channel → List Float
-held ch = tab (nf (ch .config) - z (ch .config)) (λ k. getD (ch .memory) k zero32)
+abbrev pub channelPast : Channel → List Float
+channelPast ch = tab (nf (ch .config) - z (ch .config)) (λ k. getD (ch .memory) k zero32)
 
 -- a channel with nothing in its past
 abbrev pub silent : ℕ → Channel
@@ -73,7 +73,7 @@ accepted c past x = (record { number = refusals.accepted; index = 0; samples = s
 
 -- a refused call writes nothing, and its channel is the one handed in
 abbrev pub framed : ℕ → Channel → Lent → Given × Channel
-framed zero ch x = accepted (ch .config) (held ch) (x .lines)
+framed zero ch x = accepted (ch .config) (channelPast ch) (x .lines)
 framed (suc n) ch x = (record { number = suc n; index = index (suc n) x; samples = x .samples }, ch)
 
 -- what a frame does, on any channel: the contracts of `frame` and `frame_at` cite this

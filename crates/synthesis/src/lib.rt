@@ -4,9 +4,9 @@
 ghost use mathlib.Core.Path.{_≡_};
 ghost use lib.ListN.{length, replicate};
 ghost use Rattle.laws.specs.Numbers.{zero32};
-ghost use Rattle.synthesis.specs.Synthesis.{keptOf, channelOf, held, silent, cleared, number, index, frames, lent, outcome, outcomeAt};
+ghost use Rattle.synthesis.specs.Synthesis.{keptOf, channelOf, channelPast, silent, cleared, number, index, frames, lent, outcome, outcomeAt};
 ghost use Rattle.synthesis_samples.specs.Samples.{samplesOf};
-use config::Verdict;
+use refusals::Verdict;
 
 // What a stream keeps between frames: the last places of the frame before, and zeros at the places that its configuration has no use for.
 #[repr(C)]
@@ -57,12 +57,12 @@ pub fn clear(config: u8) -> Cleared
 {
     if config::valid(config) {
         Cleared {
-            number: 0,
+            number: refusals::ACCEPTED,
             channel: silent(config),
         }
     } else {
         Cleared {
-            number: 1,
+            number: refusals::BAD_CONFIG,
             channel: silent(255),
         }
     }
@@ -73,41 +73,22 @@ fn refusal(c: u8, lines: &[f32], samples: &[f32]) -> Verdict
     ensures { λ r. ⌜ (r .number ≡ number c (lent (now (lines .entry)) (now (samples .entry)))) × (r .index ≡ index (r .number) (lent (now (lines .entry)) (now (samples .entry)))) ⌝ }
 {
     if !config::valid(c) {
-        return Verdict {
-            number: 1,
-            index: 0,
-        };
+        return Verdict::told(refusals::BAD_CONFIG);
     }
     if lines.len() != config::ne(c) {
-        return Verdict {
-            number: 3,
-            index: 0,
-        };
+        return Verdict::told(refusals::BAD_INPUT);
     }
     if samples.len() != config::nf(c) {
-        return Verdict {
-            number: 4,
-            index: 0,
-        };
+        return Verdict::told(refusals::BAD_OUTPUT);
     }
-    let first = laws::first_failing_6(lines);
-    if first < lines.len() {
-        return Verdict {
-            number: 6,
-            index: first,
-        };
-    }
-    Verdict {
-        number: 0,
-        index: 0,
-    }
+    refusals::on_values(lines)
 }
 
 // The step of a call that is not refused. The memory, of 300 places, comes as a slice: the checker follows no part of an array behind a reference.
 fn step(config: u8, lines: &[f32], memory: &mut [f32], samples: &mut [f32])
     requires { ⌜ (number config (lent (now lines) (now samples)) ≡ 0) × (length (now memory) ≡ 300) ⌝ }
     ensures memory { λ _. ⌜ now (memory .exit) ≡ keptOf config (now (lines .entry)) ⌝ }
-    ensures samples { λ _. ⌜ now (samples .exit) ≡ samplesOf config (held (channelOf config (now (memory .entry)))) (now (lines .entry)) ⌝ }
+    ensures samples { λ _. ⌜ now (samples .exit) ≡ samplesOf config (channelPast (channelOf config (now (memory .entry)))) (now (lines .entry)) ⌝ }
 {
     let keep = samples.len() - config::z(config);
     synthesis_samples::samples_of(config, lines, &mut memory[..keep], samples);
@@ -119,7 +100,7 @@ pub fn frame_at(config: u8, memory: &mut [f32; 300], lines: &[f32], samples: &mu
     ensures { λ r. ⌜ frames (channelOf config (now (memory .entry))) (lent (now (lines .entry)) (now (samples .entry))) ≡ outcomeAt config r (now (memory .exit)) (now (samples .exit)) ⌝ }
 {
     let v = refusal(config, lines, samples);
-    if v.number == 0 {
+    if v.number == refusals::ACCEPTED {
         step(config, lines, memory, samples);
     }
     v
@@ -132,7 +113,7 @@ impl Channel {
     {
         let config = self.config;
         let mut framed = Framed {
-            number: 0,
+            number: refusals::ACCEPTED,
             index: 0,
             channel: self,
         };

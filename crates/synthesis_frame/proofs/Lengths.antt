@@ -6,7 +6,8 @@ use lib.ListN.{length}
 use lib.Ieee.{Float}
 use Rattle.dct_steps.specs.Dct.{dctIv}
 use Rattle.dct_steps.proofs.Placed.{length-dctIv}
-use Rattle.synthesis_steps.specs.Places.{padded, unfolded, scaled}
+use Rattle.synthesis_steps.specs.Places.{padded, unfolded}
+use Rattle.gains.specs.Gains.{scaled}
 use Rattle.synthesis_steps.proofs.Places.{length-padded, length-scaled, length-windowed}
 use Rattle.synthesis_steps.proofs.Mirrors.{length-unfolded}
 use Rattle.synthesis_frame.specs.Frame.{places}

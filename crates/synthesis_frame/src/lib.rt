@@ -7,7 +7,8 @@ ghost use lib.ListN.{length};
 ghost use Rattle.config.specs.Config.{among, dctLengths};
 ghost use Rattle.windows.specs.Windows.{Numbers};
 ghost use Rattle.dct_steps.specs.Dct.{dctIv};
-ghost use Rattle.synthesis_steps.specs.Places.{padded, unfolded, scaled, windowed, output, remains};
+ghost use Rattle.synthesis_steps.specs.Places.{padded, unfolded, windowed, output, remains};
+ghost use Rattle.gains.specs.Gains.{scaled};
 
 // Inner. The DCT of the lines, which zeros follow; the samples' slice is worked in, as in the Rust.
 pub fn apply_dct(lines: &[f32], samples: &mut [f32])

@@ -12,8 +12,8 @@ use Rattle.config.specs.Config.{valid, nf, z, half}
 use Rattle.config.proofs.Sound.{sound}
 use Rattle.windows.specs.Windows.{window, Numbers}
 use Rattle.windows.proofs.Entries.{window-length, window-numbers}
-use Rattle.twiddles.specs.Twiddles.{gain}
-use Rattle.synthesis_steps.specs.Places.{unfolded, scaled, windowed, output, remains}
+use Rattle.synthesis_steps.specs.Places.{unfolded, windowed, output, remains}
+use Rattle.gains.specs.Gains.{gain, scaled}
 use Rattle.synthesis_steps.proofs.Places.{length-scaled}
 use Rattle.synthesis_steps.proofs.Lengths.{whole-output}
 

@@ -28,8 +28,8 @@ ghost use lib.ListN.{length, replicate};
 ghost use Rattle.laws.specs.Numbers.{zero32};
 ghost use Rattle.config.specs.Config.{valid, nf, z, half};
 ghost use Rattle.windows.specs.Windows.{window};
-ghost use Rattle.twiddles.specs.Twiddles.{gain};
-ghost use Rattle.synthesis_steps.specs.Places.{unfolded, scaled, windowed, output, remains};
+ghost use Rattle.synthesis_steps.specs.Places.{unfolded, windowed, output, remains};
+ghost use Rattle.gains.specs.Gains.{gain, scaled};
 
 fn zeros_20() -> [f32; 20]
     ensures { λ r. ⌜ r ≡ replicate 20 zero32 ⌝ }
@@ -225,7 +225,7 @@ fn overlap_n20_2p5ms(memory: &mut [f32], samples: &mut [f32])
     // setting up a loop as short as these costs more than running it: called from here, the compiler knows how often each turns
     let w = w_n20_2p5ms();
     let mut v = zeros_20();
-    synthesis_steps::scaled(samples, twiddles::gain(20), &mut v);
+    synthesis_steps::scaled(samples, gains::gain(20), &mut v);
     synthesis_steps::overlapped(&v, &w, memory, samples, 0, 10);
     synthesis_steps::remaining(&v, &w, memory, 0, 10);
 }

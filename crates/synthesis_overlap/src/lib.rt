@@ -6,8 +6,8 @@ ghost use lib.Dec.{T};
 ghost use lib.ListN.{length};
 ghost use Rattle.config.specs.Config.{valid, nf, z, half};
 ghost use Rattle.windows.specs.Windows.{window};
-ghost use Rattle.twiddles.specs.Twiddles.{gain};
-ghost use Rattle.synthesis_steps.specs.Places.{unfolded, scaled, windowed, output, remains};
+ghost use Rattle.synthesis_steps.specs.Places.{unfolded, windowed, output, remains};
+ghost use Rattle.gains.specs.Gains.{gain, scaled};
 
 mod arms; // arms.rt: each configuration with its window and work area
 
@@ -21,6 +21,6 @@ fn overlap_with(c: u8, w: &[u32], v: &mut [f32], memory: &mut [f32], samples: &m
     ensures samples { λ _. ⌜ now (samples .exit) ≡ output (nf c) (z c) (now (memory .entry)) (windowed (window c) (unfolded (half c) (scaled (gain (nf c)) (now (samples .entry))))) ⌝ }
 {
     // v's length, which an arm knows, picks the gain while compiling
-    let g = twiddles::gain(v.len());
+    let g = gains::gain(v.len());
     synthesis_frame::overlap_add(v, w, memory, samples, g, config::z(c), config::half(c));
 }

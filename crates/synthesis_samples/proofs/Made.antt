@@ -9,10 +9,10 @@ use lib.Ieee.{Float}
 use Rattle.config.specs.Config.{valid, nf, z, ne, half, among, dctLengths}
 use Rattle.config.proofs.Sound.{sound}
 use Rattle.windows.specs.Windows.{window}
-use Rattle.twiddles.specs.Twiddles.{gain}
 use Rattle.dct_steps.specs.Dct.{dctIv}
 use Rattle.dct_steps.proofs.Placed.{length-dctIv}
-use Rattle.synthesis_steps.specs.Places.{padded, unfolded, scaled, windowed, output, remains}
+use Rattle.synthesis_steps.specs.Places.{padded, unfolded, windowed, output, remains}
+use Rattle.gains.specs.Gains.{gain, scaled}
 use Rattle.synthesis_steps.proofs.Places.{length-padded}
 use Rattle.synthesis_steps.proofs.Mirrors.{unfolded-scaled}
 use Rattle.synthesis_frame.specs.Frame.{places}

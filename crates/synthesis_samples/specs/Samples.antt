@@ -4,7 +4,7 @@ use mathlib.Core.List.{List}
 use lib.Ieee.{Float}
 use Rattle.config.specs.Config.{nf, z, half}
 use Rattle.windows.specs.Windows.{window}
-use Rattle.twiddles.specs.Twiddles.{gain}
+use Rattle.gains.specs.Gains.{gain}
 use Rattle.synthesis_steps.specs.Places.{output, remains}
 use Rattle.synthesis_frame.specs.Frame.{places}
 

@@ -7,7 +7,8 @@ use lib.ListN.{length, getD, replicate, length-append, length-replicate, length-
 use lib.Ieee.{Float, nan, binary32, mul, ofBits}
 use Rattle.laws.proofs.Sign.{mul-nan, mul-nan-right}
 use Rattle.laws.specs.Numbers.{zero32}
-use Rattle.synthesis_steps.specs.Places.{padded, scaled, windowed}
+use Rattle.synthesis_steps.specs.Places.{padded, windowed}
+use Rattle.gains.specs.Gains.{scaled}
 use Rattle.synthesis_steps.proofs.Lists.{getD-within, getD-reverse, getD-zipWith, length-zipWith}
 
 pub getD-scaled : (g : Float) (l : List Float) (k : ℕ) → getD (scaled g l) k nan ≡ mul binary32 (getD l k nan) g

@@ -18,10 +18,6 @@ mirrored b = b ++ map neg (reverse b)
 unfoldable pub unfolded : ℕ → List Float → List Float
 unfolded h b = drop h (mirrored b) ++ map neg (take h (mirrored b))
 
--- apply_mdct_inverse: every place times the gain
-unfoldable pub scaled : Float → List Float → List Float
-scaled g t = map (λ x. mul binary32 x g) t
-
 -- run: every place times the window, whose bits are read backwards
 unfoldable pub windowed : List ℕ → List Float → List Float
 windowed w t = zipWith (mul binary32) t (map (ofBits binary32) (reverse w))

@@ -7,7 +7,8 @@ ghost use Prim.Native.Nat.{_+_, _-_, _*_, _≤_};
 ghost use lib.ListN.{length, take, drop, replicate};
 ghost use lib.Ieee.{binary32, add};
 ghost use Rattle.laws.specs.Numbers.{zero32};
-ghost use Rattle.synthesis_steps.specs.Places.{padded, unfolded, scaled, windowed, output, remains};
+ghost use Rattle.synthesis_steps.specs.Places.{padded, unfolded, windowed, output, remains};
+ghost use Rattle.gains.specs.Gains.{scaled};
 ghost use Rattle.windows.specs.Windows.{Numbers};
 
 // copy_from_slice: all of `to` from `from`.

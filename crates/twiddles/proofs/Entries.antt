@@ -1,4 +1,4 @@
--- What document 01 asks of each twiddle, and a rule of the gains, by one computed test over all sizes each, and a law at each entry. Assumes nothing.
+-- What document 01 asks of each twiddle, by one computed test over all sizes each, and a law at each entry. Assumes nothing.
 use mathlib.Core.Bool.{Bool, true, false, _&&_}
 use mathlib.Core.List.{List, [], _∷_}
 use Prim.Native.Nat.{ℕ, zero, suc, _<_}
@@ -9,11 +9,12 @@ use lib.ListN.{length, getD}
 use lib.Ieee.{Float, nan, ofBits, ofFields, odd}
 use lib.Ieee.Fits.{and-l, and-r}
 use lib.Count.{trailingZeros}
+use Rattle.laws.specs.Exact.{finite, units, near}
 use Rattle.laws.proofs.Table.{every}
 use Rattle.config.proofs.Among.{at-among}
-use Rattle.twiddles.specs.Tables.{sizes, fftReBits, fftImBits, dctReBits, dctImBits, gainBits}
-use Rattle.twiddles.specs.Twiddles.{start, fftRe, fftIm, dctRe, dctIm, lengths, gain}
-use Rattle.twiddles.specs.Circle.{finite, units, near, circle, turned, rooted}
+use Rattle.twiddles.specs.Tables.{sizes, fftReBits, fftImBits, dctReBits, dctImBits}
+use Rattle.twiddles.specs.Twiddles.{start, fftRe, fftIm, dctRe, dctIm}
+use Rattle.twiddles.specs.Circle.{circle, turned}
 use Rattle.twiddles.specs.Rules.{Rules}
 use Rattle.twiddles.proofs.Sizes.{sized}
 
@@ -59,10 +60,6 @@ turn-test : T (every (λ k n. turning n) 0 sizes)
 unfolding sizes start fftRe fftIm fftReBits fftImBits turned near units ofBits ofFields odd trailingZeros
 turn-test = tt
 
-gain-test : T (every (λ k nf. rooted nf (gain nf)) 0 lengths)
-unfolding sizes gainBits gain rooted near units finite ofBits ofFields odd trailingZeros
-gain-test = tt
-
 pub rules : Rules
 rules =
     record {
@@ -72,5 +69,4 @@ rules =
           circle-at (dctRe n) (dctIm n) (and-r (circles (fftRe n) (fftIm n)) _ (at-among round sizes circle-test n s)) k (rw (sized n s .dct-re) h);
       fft-turned = λ n s k h.
           rw (add-one k) (turned-at (getD (fftRe n) 1 nan) (getD (fftIm n) 1 nan) (fftRe n) (fftIm n) (at-among turning sizes turn-test n s) k (rw (sized n s .fft-re) (rw (add-one k) at h)));
-      gain-rooted = at-among (λ nf. rooted nf (gain nf)) lengths gain-test;
     }

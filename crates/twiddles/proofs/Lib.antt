@@ -1,4 +1,3 @@
-pub mod Look
 pub mod Sizes
 pub mod Entries
 pub mod Turns

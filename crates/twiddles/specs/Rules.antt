@@ -1,12 +1,12 @@
--- What is promised of every twiddle of every size, and of every gain. Definitions only.
+-- What is promised of every twiddle of every size. Definitions only.
 use Prim.Native.Nat.{ℕ, _+_, _<_}
 use lib.Dec.{T}
 use lib.ListN.{getD}
 use lib.Ieee.{nan}
 use Rattle.config.specs.Config.{among}
 use Rattle.twiddles.specs.Tables.{sizes}
-use Rattle.twiddles.specs.Twiddles.{fftRe, fftIm, dctRe, dctIm, lengths, gain}
-use Rattle.twiddles.specs.Circle.{circle, turned, rooted}
+use Rattle.twiddles.specs.Twiddles.{fftRe, fftIm, dctRe, dctIm}
+use Rattle.twiddles.specs.Circle.{circle, turned}
 
 pub record Rules : Type 0 where
   -- "every twiddle's r²+i² is within 2^-22 of 1": of the FFT
@@ -16,5 +16,3 @@ pub record Rules : Type 0 where
   -- "FFT entry i+1 is within 2^-22, in each part, of the exact product of entries i and 1"
   pub fft-turned : (n : ℕ) → T (among sizes n) → (k : ℕ) → k + 1 < n
       → T (turned (getD (fftRe n) k nan) (getD (fftIm n) k nan) (getD (fftRe n) 1 nan) (getD (fftIm n) 1 nan) (getD (fftRe n) (k + 1) nan) (getD (fftIm n) (k + 1) nan))
-  -- the square of a length's gain, times 2 nf, is within 2^-22 of 1
-  pub gain-rooted : (nf : ℕ) → T (among lengths nf) → T (rooted nf (gain nf))

@@ -1,5 +1,4 @@
--- The twiddles as bits, one size after the other, and the gains in the order of the sizes. Written by tools/tables from
--- data/twiddles.txt. Definitions only.
+-- The twiddles as bits, one size after the other. Written by tools/tables from data/twiddles.txt. Definitions only.
 use mathlib.Core.List.{List, [], _∷_}
 use Prim.Native.Nat.{ℕ}
 
@@ -537,10 +536,4 @@ dctImBits =
     0xbf7d6177 ∷ 0xbf7d9d47 ∷ 0xbf7dd64f ∷ 0xbf7e0c8e ∷ 0xbf7e4004 ∷ 0xbf7e70b0 ∷ 0xbf7e9e92 ∷ 0xbf7ec9a9 ∷
     0xbf7ef1f5 ∷ 0xbf7f1775 ∷ 0xbf7f3a29 ∷ 0xbf7f5a10 ∷ 0xbf7f772b ∷ 0xbf7f9178 ∷ 0xbf7fa8f8 ∷ 0xbf7fbdaa ∷
     0xbf7fcf8f ∷ 0xbf7fdea5 ∷ 0xbf7feaed ∷ 0xbf7ff466 ∷ 0xbf7ffb11 ∷ 0xbf7ffeed ∷
-    []
-
-unfoldable pub gainBits : List ℕ
-gainBits =
-    0x3e21e89b ∷ 0x3de4f92e ∷ 0x3dbaf4ba ∷ 0x3da1e89b ∷ 0x3d8432a5 ∷ 0x3d64f92e ∷ 0x3d57e0cf ∷ 0x3d3af4ba ∷
-    0x3d21e89b ∷ 0x3d18a61f ∷ 0x3d0432a5 ∷
     []

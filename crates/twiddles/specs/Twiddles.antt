@@ -1,13 +1,13 @@
--- The twiddles of each FFT size and the gain of each length, as the Rust computes them (kissfft.rs, dct_iv.rs, modified_dct.rs). Definitions only.
+-- The twiddles of each FFT size, as the Rust computes them (kissfft.rs, dct_iv.rs). Definitions only.
 use mathlib.Core.Bool.{Bool, true, false, cond}
 use mathlib.Core.List.{List, [], _∷_, _++_, map}
-use Prim.Native.Nat.{ℕ, _+_, _*_}
-use lib.Dec.{ltb, eqb}
+use Prim.Native.Nat.{ℕ, _+_}
+use lib.Dec.{ltb}
 use lib.ListN.{take, drop}
 use lib.Ieee.{Float, binary32, ofBits, neg}
 use Rattle.complex.specs.declared.Complex.{Complex}
 use Rattle.complex.specs.Complex.{at}
-use Rattle.twiddles.specs.Tables.{sizes, fftReBits, fftImBits, dctReBits, dctImBits, gainBits}
+use Rattle.twiddles.specs.Tables.{sizes, fftReBits, fftImBits, dctReBits, dctImBits}
 
 -- the sum of the sizes below n
 abbrev pub below : List ℕ → ℕ → ℕ
@@ -52,17 +52,3 @@ dctTable n = dctRe n ++ dctIm n
 -- DCT twiddle k of n
 unfoldable pub dctTwiddle : ℕ → ℕ → Complex
 dctTwiddle n k = at (dctRe n) (dctIm n) k
-
--- the DCT's lengths, in the order of the sizes
-abbrev pub lengths : List ℕ
-lengths = map (λ (n : ℕ). 2 * n) sizes
-
--- what stands in the second list where the first has n, and 0 where it does not
-abbrev pub look : List ℕ → List ℕ → ℕ → ℕ
-look [] bs n = 0
-look (m ∷ ms) [] n = 0
-look (m ∷ ms) (b ∷ bs) n = cond (eqb m n) b (look ms bs n)
-
--- "Gain: 1 divided by the f32 square root of 2·nf"; 0.0 for a length that no configuration has
-unfoldable pub gain : ℕ → Float
-gain nf = ofBits binary32 (look lengths gainBits nf)

@@ -1,12 +1,11 @@
-// The twiddles of the DCT-IV, and the gains. The definitions have the FFT's twiddles too; what a transform reads of them is in fft_tables.
-// New: src/common/kissfft.rs, src/common/dct_iv.rs and the two modified_dct.rs of lc3-codec 0.2.0 compute these values, and a run of them gave
+// The twiddles of the DCT-IV. The definitions have the FFT's twiddles too; what a transform reads of them is in fft_tables.
+// New: src/common/kissfft.rs and src/common/dct_iv.rs of lc3-codec 0.2.0 compute these values, and a run of them gave
 // these tables.
 ghost use mathlib.Core.Path.{_≡_};
 ghost use mathlib.Core.List.{map};
 ghost use lib.Ieee.{neg};
 
 mod dct; // dct.rt: the DCT's twiddles
-mod gains; // gains.rt: the gains
 
 pub use dct::dct_10;
 pub use dct::dct_20;
@@ -19,7 +18,6 @@ pub use dct::dct_120;
 pub use dct::dct_160;
 pub use dct::dct_180;
 pub use dct::dct_240;
-pub use gains::gain;
 
 // Entry. Every number gets the other sign: what the inverse FFT does to its imaginary parts.
 pub fn negate(im: &mut [f32])

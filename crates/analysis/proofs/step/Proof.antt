@@ -10,7 +10,7 @@ use borrow.Author.Needs.{needs}
 use Rattle.laws.proofs.Lists.{length-tab, take-tab}
 use Rattle.config.specs.Config.{nf, z}
 use Rattle.analysis_lines.specs.Lines.{linesOf}
-use Rattle.analysis.specs.Analysis.{channelOf, held}
+use Rattle.analysis.specs.Analysis.{channelOf, channelPast}
 use Rattle.analysis.proofs.Made.{keeps, made-kept}
 use Rattle.analysis.proofs.Frames.{made}
 use Rattle.analysis.proofs.step.Statement.{statement}
@@ -44,7 +44,7 @@ returns c =
     let n = st .args .c in
     let x = st .args .input .now in
     let l = st .args .samples .now in
-    let past = held (channelOf n l) in
+    let past = channelPast (channelOf n l) in
     let k = keeps (st .args .c) (st .pre .0) (st .pre .1) z-is in
     let past-is : take (nf n - z n) l ≡ past = take-tab (nf n - z n) l (pos 0) (omega (arith, k, st .pre .3)) in
     let q = c .before .before .before .before .before .before .before .before .z .result in

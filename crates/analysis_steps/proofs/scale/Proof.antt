@@ -6,7 +6,7 @@ use lib.ListN.{length, getD}
 use lib.Ieee.{Float, nan, binary32, mul}
 use borrow.Author.Needs.{needs}
 use Rattle.laws.proofs.Lists.{Filled, filled-none, filled-more, filled-all, filled-at, tab-map}
-use Rattle.analysis_steps.specs.Fold.{gained}
+use Rattle.gains.specs.Gains.{scaled}
 use Rattle.analysis_steps.proofs.scale.Statement.{statement}
 use Rattle.analysis_steps.proofs.scale.Tie as tie
 
@@ -48,7 +48,7 @@ same-length : tie.Need-same-length Inv-loop μ-loop
 same-length c = search needs
 
 returns : tie.Need-returns Inv-loop μ-loop
-unfolding gained
+unfolding scaled
 returns c = filled-all (c .before .loop .inv .1) (omega arith) ∙ tab-map (λ (x : Float). mul binary32 x (c .before .before .args .gain)) nan (c .before .before .args .buf .now)
 
 pub scale-spec : {M : Type 1} → statement M

@@ -5,7 +5,7 @@ use borrow.Author.Tests.{not-true, not-false}
 use borrow.Author.Needs.{needs}
 use Rattle.config.specs.Config.{among, fftSizes}
 use Rattle.kissfft.proofs.Judged.{says-2, says-3, says-4, says-6, says-0}
-use Rattle.config.proofs.Verdicts.{first-is-not, second-is-not}
+use Rattle.refusals.proofs.Verdicts.{first-is-not, second-is-not}
 use Rattle.kissfft.proofs.judge.Statement.{statement}
 use Rattle.kissfft.proofs.judge.Tie as tie
 

@@ -2,7 +2,7 @@
 use mathlib.Core.Path.{sym, ap, _∙_}
 use native.Mathlib.Omega.{arith}
 use borrow.Author.Needs.{needs}
-use Rattle.config.specs.declared.Verdict.{Verdict}
+use Rattle.refusals.specs.declared.Verdict.{Verdict}
 use Rattle.measurement.specs.Measurement.{lent}
 use Rattle.measurement.proofs.Verdicts.{Passed, passed, refused, made}
 use Rattle.measurement.proofs.measure.Statement.{statement}

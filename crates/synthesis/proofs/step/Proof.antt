@@ -12,7 +12,7 @@ use Rattle.laws.proofs.Lists.{take-tab}
 use Rattle.config.specs.Config.{nf, z}
 use Rattle.laws.specs.Numbers.{zero32}
 use Rattle.synthesis_samples.specs.Samples.{samplesOf}
-use Rattle.synthesis.specs.Synthesis.{lent, channelOf, held}
+use Rattle.synthesis.specs.Synthesis.{lent, channelOf, channelPast}
 use Rattle.synthesis.proofs.Frames.{passed}
 use Rattle.synthesis.proofs.Made.{keeps, made-kept}
 use Rattle.synthesis.proofs.step.Statement.{statement}
@@ -68,7 +68,7 @@ returns c =
     let f = fits y in
     let l = c .before .before .before .before .before .before .before .before .before .before .before .before .before .before .before .pre .1 in
     let e : length (s .last .1 .1 .0) ≡ keep y = omega (arith, s .kept, part y) in
-    let past : take (keep y) (a .memory .now) ≡ held (channelOf (a .config) (a .memory .now)) = take-tab (keep y) (a .memory .now) zero32 (omega (arith, f, l)) ∙ ap (λ (i : ℕ). tab i (λ k. getD (a .memory .now) k zero32)) (f .2) in (
+    let past : take (keep y) (a .memory .now) ≡ channelPast (channelOf (a .config) (a .memory .now)) = take-tab (keep y) (a .memory .now) zero32 (omega (arith, f, l)) ∙ ap (λ (i : ℕ). tab i (λ k. getD (a .memory .now) k zero32)) (f .2) in (
       made-kept (a .config) (keep y) (a .lines .now) (a .memory .now) l (f .2) e (s .ensures .0) (c .before .before .zeros .ensures),
       s .ensures .1 ∙ ap (λ (p : List Float). samplesOf (a .config) p (a .lines .now)) past,
     )

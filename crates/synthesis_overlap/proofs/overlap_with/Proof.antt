@@ -6,8 +6,7 @@ use lib.Ieee.{Float}
 use borrow.Author.Needs.{needs}
 use Rattle.config.specs.Config.{nf}
 use Rattle.config.proofs.Sound.{sound}
-use Rattle.twiddles.specs.Twiddles.{gain}
-use Rattle.synthesis_steps.specs.Places.{scaled}
+use Rattle.gains.specs.Gains.{gain, scaled}
 use Rattle.synthesis_overlap.proofs.Made.{asked, with-memory, with-samples}
 use Rattle.synthesis_overlap.proofs.overlap_with.Statement.{statement}
 use Rattle.synthesis_overlap.proofs.overlap_with.Tie as tie

@@ -1,8 +1,14 @@
--- Document 01's refusal numbers by name, in the order in which they are tested. Definitions only.
-use mathlib.Core.Bool.{cond}
+-- Document 01's refusal numbers by name, in the order in which they are tested, and the verdicts that several calls share. Definitions only.
+use mathlib.Core.Bool.{not, cond}
+use mathlib.Core.List.{List}
 use Prim.Native.Nat.{ℕ}
-use lib.Dec.{eqb}
-use Rattle.config.specs.declared.Verdict.{Verdict}
+use lib.Dec.{eqb, ltb}
+use lib.Ieee.{Float}
+use lib.ListN.{length}
+use Rattle.laws.specs.Lists.{first}
+use Rattle.laws.specs.Passes.{passes6, passes7}
+use Rattle.config.specs.Config.{valid, nb}
+use Rattle.refusals.specs.declared.Verdict.{Verdict}
 
 -- "0 is acceptance"
 abbrev pub accepted : ℕ
@@ -56,3 +62,22 @@ cutFrame = 11
 -- "the index is 0 but for 6 and 7": the verdict with a number of the first six, where i is the first place that does not pass 6
 abbrev pub verdictOf : ℕ → ℕ → Verdict
 verdictOf n i = record { number = n; index = cond (eqb n badValue) i 0 }
+
+-- a verdict whose number goes with no place
+abbrev pub told : ℕ → Verdict
+told n = record { number = n; index = 0 }
+
+-- values that have passed all but the test of 6
+unfoldable pub onValues : List Float → Verdict
+onValues x = cond (ltb (first passes6 x) (length x)) (record { number = badValue; index = first passes6 x }) (told accepted)
+
+-- a call on energies alone, by its tests 1, 5 and 7: what it answers on energies that pass, and beside a refusal
+abbrev pub judged : {A : Type 0} → (ℕ → ℕ → A) → A → ℕ → List Float → A
+judged refusal answer c l =
+    cond (not (valid c)) (refusal badConfig 0)
+    (cond (not (eqb (length l) (nb c))) (refusal badEnergies 0)
+    (cond (eqb (first passes7 l) (length l)) answer (refusal badEnergy (first passes7 l))))
+
+-- energies, by their tests alone
+unfoldable pub onEnergies : ℕ → List Float → Verdict
+onEnergies c l = judged (λ n i. record { number = n; index = i }) (told accepted) c l

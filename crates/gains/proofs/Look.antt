@@ -4,7 +4,7 @@ use mathlib.Core.List.{List, [], _∷_}
 use Prim.Native.Nat.{ℕ}
 use borrow.Author.Tests.{ne-eqb}
 use Rattle.laws.proofs.Arms.{Outside, outside-besides}
-use Rattle.twiddles.specs.Twiddles.{look}
+use Rattle.gains.specs.Gains.{look}
 
 pub look-none : (ms bs : List ℕ) (n : ℕ) (A : Type 0) → Outside ms n A → look ms bs n ≡ 0
 look-none [] bs n A o = refl

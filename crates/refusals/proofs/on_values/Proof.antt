@@ -1,0 +1,26 @@
+-- `refusals::on_values` meets its contract: the first value that fails is before the end, or none is. Assumes nothing.
+use mathlib.Core.Path.{_≡_, sym, ap, subst, _∙_}
+use Prim.Native.Nat.{_≤_, _<_}
+use lib.ListN.{length}
+use borrow.Author.Needs.{needs}
+use borrow.Author.Tests.{lt-ltb, le-ltb}
+use Rattle.laws.specs.Lists.{first}
+use Rattle.laws.specs.Passes.{passes6}
+use Rattle.refusals.specs.Refusals.{badValue, onValues}
+use Rattle.refusals.proofs.on_values.Statement.{statement}
+use Rattle.refusals.proofs.on_values.Tie as tie
+
+returns : tie.Need-returns
+unfolding onValues
+returns c =
+    let e = c .before .first-failing-6 .ensures in
+    rw (← e, lt-ltb _ _ (c .if1 .taken))
+
+returns-2 : tie.Need-returns-2
+unfolding onValues
+returns-2 c =
+    let e = c .before .before .first-failing-6 .ensures in
+    c .told .ensures ∙ rw (← e, le-ltb _ _ (c .before .if1 .left))
+
+pub on-values-spec : {M : Type 1} → statement M
+on-values-spec = tie.close (tie.spec (λ c κs. search needs) returns (λ c κs. search needs) returns-2)
