@@ -12,11 +12,7 @@ use Rattle.config.specs.Config.{valid, nf}
 use Rattle.refusals.proofs.Verdicts.{went-on}
 use Rattle.analysis.specs.declared.Channel.{Channel}
 use Rattle.analysis_lines.specs.Lines.{linesOf}
-use Rattle.analysis.specs.Analysis.{keptOf, channelOf, channelPast, clearing, cleared, Lent, Given, number, accepted, framed, frames}
-
-pub clear-is : (c : ℕ) (b v : Bool) → v ≡ b → v ≡ valid c → cleared c ≡ clearing b c
-unfolding cleared
-clear-is c b v e f = ap (λ (a : Bool). clearing a c) (sym f ∙ e)
+use Rattle.analysis.specs.Analysis.{keptOf, channelOf, channelPast, Lent, Given, number, accepted, framed, frames}
 
 -- the number, from the tests one after the other; v is what the code's test of the configuration gave
 module _ (c : ℕ) (x : Lent) {v : Bool} (e : v ≡ valid c) where

@@ -1,5 +1,5 @@
 -- Analysis: a frame to lines (`ModDiscreteCosTrans::run` of the encoder, but for its energies and flag), and the calls of a channel: `clear`, and a frame by value (`frame`) and in place (`frame_at`). Definitions only.
-use mathlib.Core.Bool.{Bool, true, false, not, cond}
+use mathlib.Core.Bool.{not, cond}
 use mathlib.Core.List.{List, _++_}
 use Prim.Native.Nat.{ℕ, zero, suc, _-_}
 use lib.IntN.{ℤ, pos}
@@ -34,14 +34,13 @@ abbrev pub silent : ℕ → Channel
 silent c = channelOf c (replicate 300 (pos 0))
 
 -- ---- `clear`
--- a fresh channel; "above 9 it gives 1 and a channel of configuration 255 with all else zero"; above 19 since document 02 §1
-abbrev pub clearing : Bool → ℕ → Cleared
-clearing true c = record { number = refusals.accepted; channel = silent c }
-clearing false c = record { number = refusals.badConfig; channel = silent 255 }
+-- a number, and a channel of configuration c with nothing in its past
+abbrev pub clearedAs : ℕ → ℕ → Cleared
+clearedAs n c = record { number = n; channel = silent c }
 
 -- what `clear` gives: its contract cites this
 unfoldable pub cleared : ℕ → Cleared
-cleared c = clearing (valid c) c
+cleared c = refusals.clearing clearedAs (valid c) c
 
 -- ---- `frame`
 -- what a call is lent

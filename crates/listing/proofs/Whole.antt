@@ -16,7 +16,8 @@ use borrow.Author.Tests.{lt-ltb, le-ltb, ne-eqb, ltb-true, ltb-false}
 use Rattle.config.specs.Config.{valid, nf}
 use Rattle.config.proofs.Sound.{sound}
 use Rattle.analysis.specs.declared.Channel.{Channel}
-use Rattle.analysis.specs.Analysis.{Lent, number, framed as called, frames, lent, cleared, clearing}
+use Rattle.refusals.specs.Refusals.{clearing}
+use Rattle.analysis.specs.Analysis.{Lent, number, framed as called, frames, lent, cleared, clearedAs}
 use Rattle.frame_file.specs.declared.Header.{Header}
 use Rattle.frame_file.specs.declared.Header.the-variants.{Good, Short, Unmarked, Foreign, Unknown}
 use Rattle.frame_file.specs.declared.Record.{Record}
@@ -43,7 +44,7 @@ config-stays ch x =
     let call = lent x (zeros (nf (ch .config))) in
     stays (number (ch .config) call) ch call
 
-clearing-config : (b : Bool) (c : ℕ) → T b → clearing b c .channel .config ≡ c
+clearing-config : (b : Bool) (c : ℕ) → T b → clearing clearedAs b c .channel .config ≡ c
 clearing-config true c v = refl
 clearing-config false c v = absurd v
 

@@ -14,9 +14,11 @@ use Rattle.laws.proofs.Lists.{length-tab, take-tab, tab-at}
 use Rattle.config.specs.Config.{valid, nf, z}
 use Rattle.config.proofs.Sound.{sound}
 use Rattle.analysis_steps.proofs.Buffers.{step-of, past-of-step}
+use Rattle.refusals.proofs.Clears.{clearing-map}
 use Rattle.analysis.specs.declared.Channel.{Channel}
+use Rattle.analysis.specs.declared.Cleared.{Cleared}
 use Rattle.analysis_lines.specs.Lines.{timeBuffer, mdct, linesOf}
-use Rattle.analysis.specs.Analysis.{Lent, keptOf, silent, clearing, cleared, number, framed, frames}
+use Rattle.analysis.specs.Analysis.{Lent, keptOf, silent, clearedAs, cleared, number, framed, frames}
 use Rattle.promises.specs.Sequence.{Demand3}
 use Rattle.promises.specs.AnalysisChannel.{previous, buffer, given, analysis}
 use Rattle.promises.proofs.Zeros.{take-replicate, drop-replicate}
@@ -69,10 +71,7 @@ lawful =
       new = silent;
       keeps = keeps;
       answer = λ c s x. given (linesOf c (past c s) x);
-      clearing = λ b c. (clearing b c .number, clearing b c .channel);
-      cleared-by = λ c. refl;
-      clear-accepted = λ c. refl;
-      clear-refused = λ c. tt;
+      cleared-by = λ c. clearing-map (λ (r : Cleared). (r .number, r .channel)) clearedAs (valid c) c;
       new-config = λ c. refl;
       new-kept = λ c. refl;
       rest = λ c x. cond (not (eqb (length (x .lines)) (nf c))) 4 0;

@@ -8,6 +8,7 @@ use mathlib.Core.List.{List, [], _∷_}
 use lib.Dec.{T, eqb, eqb→eq}
 use lib.ListN.{length}
 use Rattle.config.specs.Config.{valid}
+use Rattle.refusals.specs.Refusals.{clearing}
 use Rattle.promises.specs.Sequence.{Kind, Call, clear, frame, Past, fresh, clears, accepts, handedOn, after, recalled, recall, gives, defined, refuses, Idle, Shared, over, both, one-refused, other-refused, Agree, Demand3}
 
 -- f is the own list of a frame that configuration c accepts, where frames have `size c` places
@@ -22,10 +23,7 @@ pub record Lawful (k : Kind) : Type 1 where
   pub keeps : ℕ → Option (List (k .Value)) → List (k .Value)
   pub answer : ℕ → List (k .Value) → List (k .Value) → k .Given
   -- a clear, by the test of its configuration
-  pub clearing : Bool → ℕ → ℕ × k .Channel
-  pub cleared-by : (c : ℕ) → k .cleared c ≡ clearing (valid c) c
-  pub clear-accepted : (c : ℕ) → clearing true c ≡ (0, new c)
-  pub clear-refused : (c : ℕ) → T (not (eqb (clearing false c .0) 0))
+  pub cleared-by : (c : ℕ) → k .cleared c ≡ clearing (λ n d. (n, new d)) (valid c) c
   pub new-config : (c : ℕ) → k .config (new c) ≡ c
   pub new-kept : (c : ℕ) → k .kept (new c) ≡ keeps c none
   -- a frame call, by its number; the first tests are of the configuration and of the frame's length
@@ -43,8 +41,8 @@ pub record Lawful (k : Kind) : Type 1 where
 
 module _ (k : Kind) (l : Lawful k) where
   -- ---- a single call
-  clear-is : (c : ℕ) (b : Bool) → valid c ≡ b → k .cleared c ≡ l .clearing b c
-  clear-is c b e = l .cleared-by c ∙ ap (λ (v : Bool). l .clearing v c) e
+  clear-is : (c : ℕ) (b : Bool) → valid c ≡ b → k .cleared c ≡ clearing (λ n d. (n, l .new d)) b c
+  clear-is c b e = l .cleared-by c ∙ ap (λ (v : Bool). clearing (λ n d. (n, l .new d)) v c) e
 
   -- the channel of a clear, by its number and channel
   of : ℕ × k .Channel → Option (k .Channel)
@@ -55,20 +53,16 @@ module _ (k : Kind) (l : Lawful k) where
   clears-new c = go (valid c) refl
     where
       go : (b : Bool) → valid c ≡ b → T b → clears k c ≡ some (l .new c)
-      go true e t = ap of (clear-is c true e ∙ l .clear-accepted c)
+      go true e t = ap of (clear-is c true e)
       go false e t = absurd t
 
   clears-none : (c : ℕ) → T (not (valid c)) → clears k c ≡ none
   unfolding of
   clears-none c = go (valid c) refl
     where
-      shut : (b : Bool) (d : k .Channel) → T (not b) → cond b (some d) none ≡ none
-      shut true d t = absurd t
-      shut false d t = refl
-
       go : (b : Bool) → valid c ≡ b → T (not b) → clears k c ≡ none
       go true e t = absurd t
-      go false e t = ap of (clear-is c false e) ∙ shut (eqb (l .clearing false c .0) 0) (l .clearing false c .1) (l .clear-refused c)
+      go false e t = ap of (clear-is c false e)
 
   pub fits : (c : ℕ) (x : k .Lent) → T (accepts k c x) → Fits (l .size) c (k .own x)
   fits c x t = go (valid c) (λ v. v) (eqb (length (k .own x)) (l .size c)) (eqb→eq (length (k .own x)) (l .size c)) (subst (λ (n : ℕ). T (eqb n 0)) (l .number-is c x) t)
@@ -81,8 +75,8 @@ module _ (k : Kind) (l : Lawful k) where
   pub taken : (a : k .Channel) (x : k .Lent) → T (accepts k (k .config a) x) → k .frames a x ≡ l .framed 0 a x
   taken a x t = l .framed-by a x ∙ ap (λ (n : ℕ). l .framed n a x) (eqb→eq (k .number (k .config a) x) 0 t)
 
-  left : (a : k .Channel) (x : k .Lent) → T (not (accepts k (k .config a) x)) → k .frames a x .1 ≡ a
-  left a x t = ap (λ (r : k .Given × k .Channel). r .1) (l .framed-by a x) ∙ go (k .number (k .config a) x) t
+  unmoved : (a : k .Channel) (x : k .Lent) → T (not (accepts k (k .config a) x)) → k .frames a x .1 ≡ a
+  unmoved a x t = ap (λ (r : k .Given × k .Channel). r .1) (l .framed-by a x) ∙ go (k .number (k .config a) x) t
     where
       go : (n : ℕ) → T (not (eqb n 0)) → l .framed n a x .1 ≡ a
       go zero t = absurd t
@@ -153,7 +147,7 @@ module _ (k : Kind) (l : Lawful k) where
       go : (b : Bool) → (T b → T (accepts k (p .config) x)) → (T (not b) → T (not (accepts k (p .config) x)))
           → Holds (k .frames a x .1) (elim b [ true ↦ record { config = p .config; before = some (k .own x) } | false ↦ p ])
       go true t n = subst (λ (c : ℕ). Holds (k .frames a x .1) (record { config = c; before = some (k .own x) })) (h .config) (holds-taken a x (back (λ b. b) (t tt)))
-      go false t n = subst (λ (d : k .Channel). Holds d p) (sym (left a x (back not (n tt)))) h
+      go false t n = subst (λ (d : k .Channel). Holds d p) (sym (unmoved a x (back not (n tt)))) h
 
   steps : (a : k .Channel) (p : Past (k .Value)) → Holds a p → (qs : List (Call (k .Lent))) → Holds (after k a qs) (recall k p qs)
   steps a p h [] = h
@@ -162,7 +156,7 @@ module _ (k : Kind) (l : Lawful k) where
   -- a refused call leaves the channel
   stays : (a : k .Channel) (q : Call (k .Lent)) → T (refuses k (k .config a) q) → handedOn k a q ≡ a
   stays a (clear d) t = handedOn-old a d t
-  stays a (frame x) t = left a x t
+  stays a (frame x) t = unmoved a x t
 
   idle : (a : k .Channel) (qs : List (Call (k .Lent))) → Idle k (k .config a) qs → after k a qs ≡ a
   idle a [] i = refl

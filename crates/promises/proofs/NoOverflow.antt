@@ -22,7 +22,8 @@ use Rattle.analysis_steps.specs.Buffer.{pastOf, bufferStep, bufferOf}
 use Rattle.measurement_steps.specs.Energy.{energies}
 use Rattle.analysis_lines.specs.Lines.{timeBuffer, linesOf}
 use Rattle.analysis.specs.declared.Channel.{Channel}
-use Rattle.analysis.specs.Analysis.{Lent, Given, keptOf, channelPast, clearing, cleared, number, framed, frames, lent}
+use Rattle.refusals.specs.Refusals.{clearing}
+use Rattle.analysis.specs.Analysis.{Lent, Given, keptOf, channelPast, clearedAs, cleared, number, framed, frames, lent}
 use Rattle.measurement.specs.Measurement as measurement
 use Rattle.measurement.specs.Measurement.{energiesOf, measures}
 use Rattle.measurement.proofs.Verdicts as verdicts
@@ -66,7 +67,7 @@ buffer-each c p a = each-append (each-append (each-take (nf c - z c) (each-drop 
 
 clear-held : (c : ℕ) → Held (cleared c .channel)
 unfolding cleared
-clear-held c = elim (valid c) as (λ b. Held (clearing b c .channel)) [ true ↦ zeros 300 | false ↦ zeros 300 ]
+clear-held c = elim (valid c) as (λ b. Held (clearing clearedAs b c .channel)) [ true ↦ zeros 300 | false ↦ zeros 300 ]
 
 frame-held : (a : Channel) (x : Lent) → Each Sample (x .input) → Held a → Held (frames a x .1)
 unfolding frames keptOf pastOf
@@ -193,8 +194,8 @@ along-file : (c : ℕ) → T (valid c) → (f : List ℕ) → Each (λ n. n ≡ 
 unfolding cleared contents
 along-file c v f = go (valid c) v
   where
-    go : (b : Bool) → T b → Each (λ n. n ≡ 0) (numbers (clearing b c .channel) (contents c f .frames))
-    go true t = along _ (clearing true c .channel) v (zeros 300) (whole-frames (suc (length f)) c f)
+    go : (b : Bool) → T b → Each (λ n. n ≡ 0) (numbers (clearing clearedAs b c .channel) (contents c f .frames))
+    go true t = along _ (clearing clearedAs true c .channel) v (zeros 300) (whole-frames (suc (length f)) c f)
     go false t = absurd t
 
 -- ---- synthesis: the memory is at most 2^74
@@ -220,7 +221,7 @@ passing c x e =
 
 clear-kept : (c : ℕ) → Kept (synthesisCalls.cleared c .channel)
 unfolding synthesisCalls.cleared
-clear-kept c = elim (valid c) as (λ b. Kept (synthesisCalls.clearing b c .channel)) [ true ↦ each-replicate 300 zero32 (zero-size 223 1) | false ↦ each-replicate 300 zero32 (zero-size 223 1) ]
+clear-kept c = elim (valid c) as (λ b. Kept (clearing synthesisCalls.clearedAs b c .channel)) [ true ↦ each-replicate 300 zero32 (zero-size 223 1) | false ↦ each-replicate 300 zero32 (zero-size 223 1) ]
 
 module _ (a : synthesisChannel.Channel) (x : synthesisCalls.Lent) (h : Kept a) where
   by-number : (n : ℕ) → synthesisCalls.number (a .config) x ≡ n → Kept (synthesisCalls.framed n a x .1)

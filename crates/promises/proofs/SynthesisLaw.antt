@@ -14,11 +14,13 @@ use Rattle.laws.specs.Passes.{passes6}
 use Rattle.laws.proofs.Lists.{length-tab, take-tab, tab-at}
 use Rattle.config.specs.Config.{valid, nf, z, ne}
 use Rattle.config.proofs.Sound.{sound}
+use Rattle.refusals.proofs.Clears.{clearing-map}
 use Rattle.synthesis.specs.declared.Channel.{Channel}
+use Rattle.synthesis.specs.declared.Cleared.{Cleared}
 use Rattle.laws.specs.Numbers.{zero32}
 use Rattle.synthesis.proofs.Next.{length-memoryOf, last-samples}
 use Rattle.synthesis_samples.specs.Samples.{placesOf, samplesOf, memoryOf}
-use Rattle.synthesis.specs.Synthesis.{Lent, Given, keptOf, silent, clearing, cleared, number, framed, frames}
+use Rattle.synthesis.specs.Synthesis.{Lent, Given, keptOf, silent, clearedAs, cleared, number, framed, frames}
 use Rattle.promises.specs.Sequence.{accepts}
 use Rattle.promises.specs.SynthesisChannel.{memory, synthesis, last, SynthesisDemand3}
 use Rattle.promises.proofs.Zeros.{take-replicate}
@@ -59,10 +61,7 @@ lawful =
       new = silent;
       keeps = keeps;
       answer = λ c s x. given c (past c s) x;
-      clearing = λ b c. (clearing b c .number, clearing b c .channel);
-      cleared-by = λ c. refl;
-      clear-accepted = λ c. refl;
-      clear-refused = λ c. tt;
+      cleared-by = λ c. clearing-map (λ (r : Cleared). (r .number, r .channel)) clearedAs (valid c) c;
       new-config = λ c. refl;
       new-kept = λ c. refl;
       rest = λ c x. cond (not (eqb (length (x .samples)) (nf c))) 4 (cond (ltb (first passes6 (x .lines)) (length (x .lines))) 6 0);

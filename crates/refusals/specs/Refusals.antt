@@ -1,5 +1,5 @@
 -- Document 01's refusal numbers by name, in the order in which they are tested, and the verdicts that several calls share. Definitions only.
-use mathlib.Core.Bool.{not, cond}
+use mathlib.Core.Bool.{Bool, true, false, not, cond}
 use mathlib.Core.List.{List}
 use Prim.Native.Nat.{ℕ}
 use lib.Dec.{eqb, ltb}
@@ -9,6 +9,7 @@ use Rattle.laws.specs.Lists.{first}
 use Rattle.laws.specs.Passes.{passes6, passes7}
 use Rattle.config.specs.Config.{valid, nb}
 use Rattle.refusals.specs.declared.Verdict.{Verdict}
+use Rattle.refusals.specs.declared.Clear.{Clear}
 
 -- "0 is acceptance"
 abbrev pub accepted : ℕ
@@ -70,6 +71,16 @@ told n = record { number = n; index = 0 }
 -- values that have passed all but the test of 6
 unfoldable pub onValues : List Float → Verdict
 onValues x = cond (ltb (first passes6 x) (length x)) (record { number = badValue; index = first passes6 x }) (told accepted)
+
+-- "A clear is told a configuration alone and gives a fresh channel; above 9 it gives 1 and a channel of configuration 255" (above 19 since document 02 §1): by
+-- whether c is a configuration, from what makes a number and a channel's configuration into the answer
+abbrev pub clearing : {A : Type 0} → (ℕ → ℕ → A) → Bool → ℕ → A
+clearing made true c = made accepted c
+clearing made false c = made badConfig 255
+
+-- the number and the configuration alone
+unfoldable pub onClear : ℕ → Clear
+onClear c = clearing (λ n d. record { number = n; config = d }) (valid c) c
 
 -- a call on energies alone, by its tests 1, 5 and 7: what it answers on energies that pass, and beside a refusal
 abbrev pub judged : {A : Type 0} → (ℕ → ℕ → A) → A → ℕ → List Float → A

@@ -1,6 +1,6 @@
 // The refusals: their numbers by name, what a call is told of one, and the tests that several calls make alike. New in this port.
 ghost use mathlib.Core.Path.{_≡_};
-ghost use Rattle.refusals.specs.Refusals.{told, onValues, onEnergies};
+ghost use Rattle.refusals.specs.Refusals.{told, onClear, onValues, onEnergies};
 
 // Document 01's numbers, in the order in which they are tested.
 pub const ACCEPTED: u8 = 0;
@@ -40,6 +40,29 @@ impl Verdict {
         ensures { λ r. ⌜ r ≡ told number ⌝ }
     {
         Verdict { number, index: 0 }
+    }
+}
+
+// What a clear is told, and the configuration of the channel that it gives.
+pub struct Clear {
+    pub number: u8,
+    pub config: u8,
+}
+
+// Entry. A clear's number, and its channel's configuration: the one asked for, or 255 beside a refusal.
+pub fn on_clear(config: u8) -> Clear
+    ensures { λ r. ⌜ r ≡ onClear config ⌝ }
+{
+    if config::valid(config) {
+        Clear {
+            number: ACCEPTED,
+            config,
+        }
+    } else {
+        Clear {
+            number: BAD_CONFIG,
+            config: 255,
+        }
     }
 }
 

@@ -16,11 +16,7 @@ use Rattle.refusals.specs.Refusals.{onValues}
 use Rattle.refusals.proofs.Verdicts.{by-values}
 use Rattle.synthesis.specs.declared.Channel.{Channel}
 use Rattle.synthesis_samples.specs.Samples.{samplesOf}
-use Rattle.synthesis.specs.Synthesis.{keptOf, channelOf, channelPast, clearing, cleared, Lent, Given, number, index, framed, frames}
-
-pub clear-is : (c : ℕ) (b v : Bool) → v ≡ b → v ≡ valid c → cleared c ≡ clearing b c
-unfolding cleared
-clear-is c b v e f = ap (λ (a : Bool). clearing a c) (sym f ∙ e)
+use Rattle.synthesis.specs.Synthesis.{keptOf, channelOf, channelPast, Lent, Given, number, index, framed, frames}
 
 -- the number and the index, from the tests one after the other; v is what the code's test of the configuration gave
 module _ (c : ℕ) (x : Lent) {v : Bool} (e : v ≡ valid c) where

@@ -1,6 +1,6 @@
 -- Synthesis: one frame (`ModDiscreteCosTrans::run` of the decoder), and the calls of a channel: `clear`, and a frame by value (`frame`) and in place (`frame_at`). Definitions only.
 use Prim.Native.Nat.{ℕ, zero, suc, _-_}
-use mathlib.Core.Bool.{Bool, true, false, not, cond}
+use mathlib.Core.Bool.{not, cond}
 use mathlib.Core.List.{List, _++_}
 use lib.Dec.{ltb, eqb}
 use lib.ListN.{length, getD, replicate}
@@ -35,13 +35,13 @@ abbrev pub silent : ℕ → Channel
 silent c = channelOf c (replicate 300 zero32)
 
 -- ---- `clear`
-abbrev pub clearing : Bool → ℕ → Cleared
-clearing true c = record { number = refusals.accepted; channel = silent c }
-clearing false c = record { number = refusals.badConfig; channel = silent 255 }
+-- a number, and a channel of configuration c with nothing in its past
+abbrev pub clearedAs : ℕ → ℕ → Cleared
+clearedAs n c = record { number = n; channel = silent c }
 
 -- what `clear` gives: its contract cites this
 unfoldable pub cleared : ℕ → Cleared
-cleared c = clearing (valid c) c
+cleared c = refusals.clearing clearedAs (valid c) c
 
 -- ---- `frame`
 -- what a call is lent

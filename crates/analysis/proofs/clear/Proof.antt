@@ -1,26 +1,17 @@
--- `clear` meets its contract: `cleared` goes by the test that the code makes. Assumes nothing.
-use mathlib.Core.Path.{sym, ap, _∙_}
-use mathlib.Core.Bool.{true, false}
+-- `analysis::clear` meets its contract: its channel is of the configuration that the clear is told. Assumes nothing.
+use mathlib.Core.Path.{ap, _∙_}
 use borrow.Author.Needs.{needs}
+use Rattle.refusals.proofs.Clears.{made-of}
 use Rattle.analysis.specs.declared.Channel.{Channel}
-use Rattle.analysis.proofs.Frames.{clear-is}
+use Rattle.analysis.specs.Analysis.{clearedAs, cleared}
 use Rattle.analysis.proofs.clear.Statement.{statement}
 use Rattle.analysis.proofs.clear.Tie as tie
 
-valid-requires : tie.Need-valid-requires
-valid-requires c κs = search needs
-
-silent-requires : tie.Need-silent-requires
-silent-requires c κs = search needs
-
-silent-requires-2 : tie.Need-silent-requires-2
-silent-requires-2 c κs = search needs
-
 returns : tie.Need-returns
-returns c = ap (λ (ch : Channel). record { number = 0; channel = ch }) (c .silent .ensures) ∙ sym (clear-is (c .before .before .before .args .config) true _ (c .before .if1 .taken) (c .before .before .valid .ensures))
-
-returns-2 : tie.Need-returns-2
-returns-2 c = ap (λ (ch : Channel). record { number = 1; channel = ch }) (c .silent2 .ensures) ∙ sym (clear-is (c .before .before .before .args .config) false _ (c .before .if1 .left) (c .before .before .valid .ensures))
+unfolding cleared
+returns c =
+    let told = c .before .on-clear in
+    ap (λ (ch : Channel). record { number = told .result .number; channel = ch }) (c .silent .ensures) ∙ made-of clearedAs _ (told .result) (told .ensures)
 
 pub clear-spec : {M : Type 1} → statement M
-clear-spec = tie.close (tie.spec valid-requires silent-requires silent-requires-2 returns returns-2)
+clear-spec = tie.close (tie.spec (λ c κs. search needs) (λ c κs. search needs) returns)

@@ -1,0 +1,16 @@
+-- `refusals::on_clear` meets its contract: the definition goes by the test that the code makes. Assumes nothing.
+use mathlib.Core.Path.{sym}
+use mathlib.Core.Bool.{true, false}
+use borrow.Author.Needs.{needs}
+use Rattle.refusals.proofs.Clears.{clear-is}
+use Rattle.refusals.proofs.on_clear.Statement.{statement}
+use Rattle.refusals.proofs.on_clear.Tie as tie
+
+returns : tie.Need-returns
+returns c = sym (clear-is (c .before .before .args .config) true _ (c .if1 .taken) (c .before .valid .ensures))
+
+returns-2 : tie.Need-returns-2
+returns-2 c = sym (clear-is (c .before .before .args .config) false _ (c .if1 .left) (c .before .valid .ensures))
+
+pub on-clear-spec : {M : Type 1} → statement M
+on-clear-spec = tie.close (tie.spec (λ c κs. search needs) returns returns-2)
