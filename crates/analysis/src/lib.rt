@@ -87,11 +87,11 @@ pub fn frame_at(config: u8, samples: &mut [i16; 300], input: &[i16], lines: &mut
     ensures { λ r. ⌜ frames (channelOf config (now (samples .entry))) (lent (now (input .entry)) (now (lines .entry)))
         ≡ outcomeAt config r (now (samples .exit)) (now (lines .exit)) ⌝ }
 {
-    let refusal = number(config, input, lines);
-    if refusal == refusals::ACCEPTED {
+    let told = number(config, input, lines);
+    if told == refusals::ACCEPTED {
         step(config, samples, input, lines);
     }
-    refusal
+    told
 }
 
 impl Channel {

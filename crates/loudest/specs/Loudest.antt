@@ -1,6 +1,6 @@
 -- The loudest band (document 01, module 7, ranked by document 02 §2): quiet, or the first band with the greatest energy times number of lines. Definitions only.
 use Prim.Native.Nat.{ℕ, _+_, _-_}
-use mathlib.Core.Bool.{Bool, false, not, cond}
+use mathlib.Core.Bool.{Bool, false, cond}
 use mathlib.Core.Option.{Option, some, none}
 use mathlib.Core.List.{List}
 use lib.Dec.{eqb}
@@ -9,8 +9,7 @@ use lib.ListN.{length, getD}
 use lib.Ieee.{Float, nan, inf, fin, binary32, mul, ofInt}
 use Rattle.laws.specs.Lists.{tab, first}
 use Rattle.laws.specs.Greatest.{best}
-use Rattle.laws.specs.Passes.{passes7}
-use Rattle.config.specs.Config.{valid, nb, edges}
+use Rattle.config.specs.Config.{edges}
 use Rattle.refusals.specs.Refusals.{accepted, judged}
 use Rattle.loudest.specs.declared.Loudest.{Loudest}
 use Rattle.loudest.specs.declared.Loudest.the-variants.{Quiet, Loud}

@@ -2,12 +2,11 @@
 use Prim.Native.Nat.{ℕ, _+_, _-_}
 use mathlib.Core.Bool.{Bool, true, false, not, cond}
 use mathlib.Core.List.{List}
-use lib.Dec.{ltb, leb, eqb}
+use lib.Dec.{ltb, leb}
 use lib.ListN.{length, take, drop}
 use lib.Ieee.{Float, binary32, ofBits, mul, lt}
 use Rattle.laws.specs.Lists.{tab, first}
-use Rattle.laws.specs.Passes.{passes7}
-use Rattle.config.specs.Config.{valid, nb, rate, upper}
+use Rattle.config.specs.Config.{nb, rate, upper}
 use Rattle.refusals.specs.Refusals.{accepted, judged}
 use Rattle.measurement_steps.specs.Energy.{total}
 use Rattle.near_nyquist.specs.declared.Asked.{Asked}

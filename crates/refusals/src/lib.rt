@@ -90,11 +90,11 @@ pub fn on_energies(config: u8, energies: &[f32]) -> Verdict
     if energies.len() != config::nb(config) {
         return Verdict::told(BAD_ENERGIES);
     }
-    let first = laws::first_failing_7(energies);
-    if first < energies.len() {
+    let failing = laws::first_failing_7(energies);
+    if failing < energies.len() {
         return Verdict {
             number: BAD_ENERGY,
-            index: first,
+            index: failing,
         };
     }
     Verdict::told(ACCEPTED)

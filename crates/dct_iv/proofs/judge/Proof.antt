@@ -27,5 +27,9 @@ returns-3 c =
     let a = c .before .before .before .before .before .args in
     says-rest (a .n) (a .buf .now) (is-known (c .before .before)) (c .before .if2 .left) (c .on-values .ensures)
 
+-- the needs without a name, for any answer: a wrong one hides none of them
+safe : tie.Need-returns → tie.Need-returns-2 → tie.Need-returns-3 → {M : Type 1} → statement M
+safe returns returns-2 returns-3 = tie.close (tie.spec (λ c κs. search needs) (λ c κs. search needs) returns (λ c κs. search needs) returns-2 (λ c κs. search needs) returns-3)
+
 pub judge-spec : {M : Type 1} → statement M
-judge-spec = tie.close (tie.spec (λ c κs. search needs) (λ c κs. search needs) returns (λ c κs. search needs) returns-2 (λ c κs. search needs) returns-3)
+judge-spec = safe returns returns-2 returns-3

@@ -22,5 +22,9 @@ returns-2 : tie.Need-returns-2
 unfolding heard
 returns-2 c = ap told (c .answer .ensures) ∙ gives-answer _ _ _ (c .before .before .before .on-energies .ensures) (c .before .if1 .left) refusal _
 
+-- the needs without a name, for any answer: a wrong one hides none of them
+safe : tie.Need-answer-requires → tie.Need-returns → tie.Need-returns-2 → {M : Type 1} → statement M
+safe answer-requires returns returns-2 = tie.close (tie.spec (λ c κs. search needs) (λ c κs. search needs) returns answer-requires returns-2)
+
 pub loudest-band-spec : {M : Type 1} → statement M
-loudest-band-spec = tie.close (tie.spec (λ c κs. search needs) (λ c κs. search needs) returns answer-requires returns-2)
+loudest-band-spec = safe answer-requires returns returns-2

@@ -22,5 +22,9 @@ returns-2 c =
     let e = c .before .before .first-failing-6 .ensures in
     c .told .ensures ∙ rw (← e, le-ltb _ _ (c .before .if1 .left))
 
+-- the needs without a name, for any answer: a wrong one hides none of them
+safe : tie.Need-returns → tie.Need-returns-2 → {M : Type 1} → statement M
+safe returns returns-2 = tie.close (tie.spec (λ c κs. search needs) returns (λ c κs. search needs) returns-2)
+
 pub on-values-spec : {M : Type 1} → statement M
-on-values-spec = tie.close (tie.spec (λ c κs. search needs) returns (λ c κs. search needs) returns-2)
+on-values-spec = safe returns returns-2
