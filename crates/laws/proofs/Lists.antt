@@ -11,7 +11,7 @@ use native.Mathlib.Omega.{arith}
 use borrow.Author.Count.{below-more}
 use borrow.Author.Tests.{eq-eqb, ne-eqb}
 use lib.Dec.{eqb}
-use lib.ListN.{length, getD, take, drop, set, length-set}
+use lib.ListN.{length, getD, take, drop, set, length-set, replicate, length-replicate, getD-replicate}
 use lib.Seq.{drop-cons, set-at, append-snoc, drop-length, getD-at, ext-getD}
 use Rattle.laws.specs.Lists.{tab, first}
 use Rattle.laws.proofs.Bools.{outcomes}
@@ -110,6 +110,22 @@ pub filled-at : {A : Type 0} {f : ℕ → A} {l : List A} {i : ℕ} {out : List 
 filled-at {A} {f} {l} {i} {out} d h b =
     ap (λ (m : List A). getD m i d) (h .holds ∙ ap (λ (r : List A). tab i f ++ r) (drop-cons l i d b))
     ∙ getD-at (tab i f) (getD l i d) (drop (suc i) l) d i (length-tab i f)
+
+-- ---- what a loop that filled every place has made: the list r whose places are f's
+pub filled-is : {A : Type 0} {f : ℕ → A} {l : List A} {i : ℕ} {out : List A} (d : A) (r : List A) → Filled f l i out → i ≡ length l → length r ≡ length l → ((k : ℕ) → k < length l → getD r k d ≡ f k) → out ≡ r
+filled-is {A} {f} {l} {i} {out} d r h e s p = filled-all h e ∙ sym (is-tab d r (length l) f s p)
+
+-- the same value everywhere
+pub filled-replicate : {A : Type 0} {v : A} {l : List A} {i : ℕ} {out : List A} → Filled (λ k. v) l i out → i ≡ length l → out ≡ replicate (length l) v
+filled-replicate {A} {v} {l} h e = filled-is v (replicate (length l) v) h e (length-replicate (length l) v) (λ k b. getD-replicate (length l) k v v b)
+
+-- each place of m by g
+pub filled-map : {A B : Type 0} (g : A → B) (d : A) (m : List A) {l : List B} {i : ℕ} {out : List B} → Filled (λ k. g (getD m k d)) l i out → i ≡ length l → length m ≡ length l → out ≡ map g m
+filled-map {A} {B} g d m h e s = filled-all h e ∙ ap (λ (n : ℕ). tab n (λ k. g (getD m k d))) (sym s) ∙ tab-map g d m
+
+-- in place: one place more
+pub mapped-more : {A : Type 0} (g : A → A) (d : A) {l : List A} {i : ℕ} {out : List A} → Filled (λ k. g (getD l k d)) l i out → i < length l → Filled (λ k. g (getD l k d)) l (i + 1) (set out i (g (getD out i d)))
+mapped-more g d h b = filled-more _ d h b (ap g (filled-at d h b))
 
 -- the first place that does not pass, from a search that passed the places below it
 pub first-at : {A : Type 0} (p : A → Bool) (l : List A) (d : A) (i : ℕ) → i < length l → ((k : ℕ) → k < i → p (getD l k d) ≡ true) → p (getD l i d) ≡ false → i ≡ first p l

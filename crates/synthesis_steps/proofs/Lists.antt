@@ -11,7 +11,7 @@ use lib.ListN.{length, getD, take, drop, length-drop, length-reverse, List·getD
 use lib.Seq.{getD-append-add, getD-take, getD-drop, length-take-le, take-at, drop-at, take-add, drop-drop}
 use borrow.Rule.Slice.PartMut.{midOf, putMid}
 use borrow.Author.Tests.{ltb-true, ltb-false}
-use Rattle.laws.proofs.Lists.{is-tab, Filled, filled-all}
+use Rattle.laws.proofs.Lists.{is-tab, Filled, filled-is}
 use Rattle.laws.proofs.Parts.{mid-tail, put-tail}
 
 -- before a place, or not
@@ -72,10 +72,6 @@ zipWith-append {A} {B} {C} f xs ys zs n e = go xs ys ∙ ap (λ (k : ℕ). zipWi
     go xs [] = refl
     go [] (y ∷ ys) = refl
     go (x ∷ xs) (y ∷ ys) = ap (λ (l : List C). f x y ∷ l) (go xs ys)
-
--- a loop over every place has made the list whose places are f's
-pub filled-is : {A : Type 0} {f : ℕ → A} {l : List A} {i : ℕ} {out : List A} (d : A) (r : List A) → Filled f l i out → i ≡ length l → length r ≡ length l → ((k : ℕ) → k < length l → getD r k d ≡ f k) → out ≡ r
-filled-is {A} {f} {l} {i} {out} d r h e s p = filled-all h e ∙ sym (is-tab d r (length l) f s p)
 
 -- a loop that wrote the places of t from `from` on
 pub filled-part : {A : Type 0} {l : List A} {i : ℕ} {out : List A} (d : A) (from : ℕ) (t : List A) → Filled (λ k. getD t (from + k) d) l i out → i ≡ length l → from + length l ≤ length t → out ≡ take (length l) (drop from t)

@@ -7,10 +7,10 @@ use native.Mathlib.Omega.{arith}
 use lib.ListN.{length, getD, take, drop, set, length-drop}
 use lib.Seq.{getD-take, getD-drop, length-take-le}
 use lib.Ieee.{Float, nan, binary32, add, mul, ofBits}
-use Rattle.laws.proofs.Lists.{Filled, filled-more}
+use Rattle.laws.proofs.Lists.{Filled, filled-more, filled-is}
 use Rattle.laws.proofs.Sign.{add-nan, add-nan-right}
 use Rattle.synthesis_steps.specs.Places.{unfolded, windowed}
-use Rattle.synthesis_steps.proofs.Lists.{filled-is, filled-part, getD-zipWith, length-zipWith}
+use Rattle.synthesis_steps.proofs.Lists.{filled-part, getD-zipWith, length-zipWith}
 use Rattle.synthesis_steps.proofs.Places.{length-windowed, getD-windowed}
 use Rattle.synthesis_steps.proofs.Mirrors.{length-unfolded}
 

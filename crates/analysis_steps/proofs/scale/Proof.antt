@@ -1,11 +1,11 @@
 -- `scale` meets its contract. The loop's invariant: the first i values are scaled, the others as they were. Assumes nothing.
-use mathlib.Core.Path.{ap, _∙_}
-use Prim.Native.Nat.{_-_, _≤_, _<_}
+use mathlib.Core.Path.{refl}
+use Prim.Native.Nat.{_-_, _≤_}
 use native.Mathlib.Omega.{arith}
 use lib.ListN.{length, getD}
 use lib.Ieee.{Float, nan, binary32, mul}
 use borrow.Author.Needs.{needs}
-use Rattle.laws.proofs.Lists.{Filled, filled-none, filled-more, filled-all, filled-at, tab-map}
+use Rattle.laws.proofs.Lists.{Filled, filled-none, mapped-more, filled-map}
 use Rattle.gains.specs.Gains.{scaled}
 use Rattle.analysis_steps.proofs.scale.Statement.{statement}
 use Rattle.analysis_steps.proofs.scale.Tie as tie
@@ -16,41 +16,16 @@ Inv-loop buf₀ gain i₀ buf i = (i ≤ length buf₀) × Filled (λ k. mul bin
 abbrev μ-loop : tie.MeasureT-loop
 μ-loop buf₀ gain i₀ buf i = length buf₀ - i
 
-loop-holds : tie.Need-loop-holds Inv-loop μ-loop
-loop-holds c = (omega arith, filled-none _ _)
-
-mul-buf : tie.Need-mul-buf Inv-loop μ-loop
-mul-buf c = search needs
-
-slice-read-buf : tie.Need-slice-read-buf Inv-loop μ-loop
-slice-read-buf c = search needs
-
-mul-buf-2 : tie.Need-mul-buf-2 Inv-loop μ-loop
-mul-buf-2 c = search needs
-
-slice-write-buf : tie.Need-slice-write-buf Inv-loop μ-loop
-slice-write-buf c = search needs
-
-add-i : tie.Need-add-i Inv-loop μ-loop
-add-i c = search needs
-
-loop-less : tie.Need-loop-less Inv-loop μ-loop
-loop-less c = search needs
-
 loop-again : tie.Need-loop-again Inv-loop μ-loop
-loop-again c =
-    let g = c .before .before .before .args .gain in
-    let h = c .before .before .loop .inv .1 in
-    let b : c .before .before .loop .i < length (c .before .before .before .args .buf .now) = omega arith in
-    (omega arith, filled-more _ nan h b (ap (λ (x : Float). mul binary32 x g) (filled-at nan h b)))
-
-same-length : tie.Need-same-length Inv-loop μ-loop
-same-length c = search needs
+loop-again c = (omega arith, mapped-more (λ (x : Float). mul binary32 x (c .before .before .before .args .gain)) nan (c .before .before .loop .inv .1) (omega arith))
 
 returns : tie.Need-returns Inv-loop μ-loop
 unfolding scaled
-returns c = filled-all (c .before .loop .inv .1) (omega arith) ∙ tab-map (λ (x : Float). mul binary32 x (c .before .before .args .gain)) nan (c .before .before .args .buf .now)
+returns c =
+    let a = c .before .before .args in
+    filled-map (λ (x : Float). mul binary32 x (a .gain)) nan (a .buf .now) (c .before .loop .inv .1) (omega arith) refl
 
 pub scale-spec : {M : Type 1} → statement M
 scale-spec =
-    tie.close (tie.spec Inv-loop μ-loop loop-holds mul-buf slice-read-buf mul-buf-2 slice-write-buf add-i loop-less loop-again same-length returns)
+    tie.close (tie.spec Inv-loop μ-loop (λ c. (omega arith, filled-none _ _)) (λ c. search needs) (λ c. search needs) (λ c. search needs) (λ c. search needs) (λ c. search needs) (λ c. search needs)
+    loop-again (λ c. search needs) returns)

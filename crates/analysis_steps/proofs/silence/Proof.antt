@@ -1,11 +1,11 @@
 -- `silence` meets its contract. The loop's invariant: the first i places are zeros. Assumes nothing.
-use mathlib.Core.Path.{refl, sym, _∙_}
+use mathlib.Core.Path.{refl}
 use Prim.Native.Nat.{_-_, _≤_}
 use native.Mathlib.Omega.{arith}
 use lib.IntN.{pos}
-use lib.ListN.{length, replicate, length-replicate, getD-replicate}
+use lib.ListN.{length}
 use borrow.Author.Needs.{needs}
-use Rattle.laws.proofs.Lists.{Filled, filled-none, filled-more, filled-all, is-tab}
+use Rattle.laws.proofs.Lists.{Filled, filled-none, filled-more, filled-replicate}
 use Rattle.analysis_steps.proofs.silence.Statement.{statement}
 use Rattle.analysis_steps.proofs.silence.Tie as tie
 
@@ -16,9 +16,7 @@ abbrev μ-loop : tie.MeasureT-loop
 μ-loop to₀ i₀ to i = length to₀ - i
 
 returns : tie.Need-returns Inv-loop μ-loop
-returns c =
-    let n = length (c .before .before .args .to .now) in
-    filled-all (c .before .loop .inv .1) (omega arith) ∙ sym (is-tab (pos 0) (replicate n (pos 0)) n (λ k. pos 0) (length-replicate n (pos 0)) (λ k b. getD-replicate n k (pos 0) (pos 0) b))
+returns c = filled-replicate (c .before .loop .inv .1) (omega arith)
 
 pub silence-spec : {M : Type 1} → statement M
 silence-spec =

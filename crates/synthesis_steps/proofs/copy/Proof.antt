@@ -5,8 +5,7 @@ use native.Mathlib.Omega.{arith}
 use lib.ListN.{length, getD}
 use lib.Ieee.{nan}
 use borrow.Author.Needs.{needs}
-use Rattle.laws.proofs.Lists.{Filled, filled-none, filled-more}
-use Rattle.synthesis_steps.proofs.Lists.{filled-is}
+use Rattle.laws.proofs.Lists.{Filled, filled-none, filled-more, filled-is}
 use Rattle.synthesis_steps.proofs.copy.Statement.{statement}
 use Rattle.synthesis_steps.proofs.copy.Tie as tie
 

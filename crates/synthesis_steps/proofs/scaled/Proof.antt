@@ -1,13 +1,12 @@
 -- `synthesis_steps::scaled` meets its contract. The invariant: the places passed hold the products, and the others are as they were. Assumes nothing.
-use mathlib.Core.Path.{refl, _∙_}
+use mathlib.Core.Path.{refl}
 use Prim.Native.Nat.{_-_, _≤_}
 use native.Mathlib.Omega.{arith}
 use lib.ListN.{length, getD}
-use lib.Ieee.{nan, binary32, mul}
+use lib.Ieee.{Float, nan, binary32, mul}
 use borrow.Author.Needs.{needs}
-use Rattle.laws.proofs.Lists.{Filled, filled-none, filled-more}
-use Rattle.synthesis_steps.proofs.Lists.{filled-is}
-use Rattle.synthesis_steps.proofs.Places.{length-scaled, getD-scaled}
+use Rattle.laws.proofs.Lists.{Filled, filled-none, filled-more, filled-map}
+use Rattle.gains.specs.Gains.{scaled}
 use Rattle.synthesis_steps.proofs.scaled.Statement.{statement}
 use Rattle.synthesis_steps.proofs.scaled.Tie as tie
 
@@ -21,9 +20,10 @@ loop-again : tie.Need-loop-again Inv-loop μ-loop
 loop-again c = (omega arith, filled-more _ nan (c .before .before .loop .inv .1) (omega arith) refl)
 
 returns : tie.Need-returns Inv-loop μ-loop
+unfolding scaled
 returns c =
     let a = c .before .before .args in
-    filled-is nan _ (c .before .loop .inv .1) (omega arith) (length-scaled (a .g) (a .from .now) ∙ c .before .before .pre) (λ k b. getD-scaled (a .g) (a .from .now) k)
+    filled-map (λ (x : Float). mul binary32 x (a .g)) nan (a .from .now) (c .before .loop .inv .1) (omega arith) (c .before .before .pre)
 
 -- the needs without a name, for any answer: a wrong one hides none of them
 safe : tie.Need-loop-again Inv-loop μ-loop → tie.Need-returns Inv-loop μ-loop → {M : Type 1} → statement M

@@ -2,11 +2,10 @@
 use mathlib.Core.Path.{refl}
 use Prim.Native.Nat.{_-_, _≤_}
 use native.Mathlib.Omega.{arith}
-use lib.ListN.{length, length-replicate, getD-replicate}
+use lib.ListN.{length}
 use lib.Ieee.{nan}
 use borrow.Author.Needs.{needs}
-use Rattle.laws.proofs.Lists.{Filled, filled-none, filled-more}
-use Rattle.synthesis_steps.proofs.Lists.{filled-is}
+use Rattle.laws.proofs.Lists.{Filled, filled-none, filled-more, filled-replicate}
 use Rattle.laws.specs.Numbers.{zero32}
 use Rattle.synthesis_steps.proofs.zeros.Statement.{statement}
 use Rattle.synthesis_steps.proofs.zeros.Tie as tie
@@ -21,9 +20,7 @@ loop-again : tie.Need-loop-again Inv-loop μ-loop
 loop-again c = (omega arith, filled-more _ nan (c .before .loop .inv .1) (omega arith) refl)
 
 returns : tie.Need-returns Inv-loop μ-loop
-returns c =
-    let n = length (c .before .before .args .to .now) in
-    filled-is nan _ (c .before .loop .inv .1) (omega arith) (length-replicate n zero32) (λ k b. getD-replicate n k zero32 nan b)
+returns c = filled-replicate (c .before .loop .inv .1) (omega arith)
 
 pub zeros-spec : {M : Type 1} → statement M
 zeros-spec =
