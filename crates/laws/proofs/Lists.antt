@@ -2,14 +2,14 @@
 -- Assumes nothing.
 use mathlib.Core.Path.{_≡_, refl, sym, ap, _∙_}
 use mathlib.Core.Logic.{⊎-elim}
-use mathlib.Core.Bool.{Bool, true, false, cond}
+use mathlib.Core.Bool.{Bool, true, false, not, cond}
 use mathlib.Core.List.{List, [], _∷_, _++_, append-nil, map}
 use Prim.Native.Nat.{ℕ, zero, suc, _+_, _≤_, _<_}
 use native.Mathlib.Nat.{not-suc-le-zero, le-of-suc-le-suc}
 use native.Mathlib.Numerals.{add-one}
 use native.Mathlib.Omega.{arith}
 use borrow.Author.Count.{below-more}
-use borrow.Author.Tests.{eq-eqb, ne-eqb}
+use borrow.Author.Tests.{eq-eqb, ne-eqb, not-true, not-false}
 use lib.Dec.{eqb}
 use lib.ListN.{length, getD, take, drop, set, length-set, replicate, length-replicate, getD-replicate}
 use lib.Seq.{drop-cons, set-at, append-snoc, drop-length, getD-at, ext-getD}
@@ -138,6 +138,23 @@ pub first-none : {A : Type 0} (p : A → Bool) (l : List A) (d : A) → ((k : �
 unfolding first
 first-none p [] d h = refl
 first-none p (x ∷ xs) d h = rw (h 0 (omega arith)) (ap suc (first-none p xs d (λ k b. h (suc k) (omega arith))))
+
+-- ---- a search for the first place that does not pass: it has passed those below i
+abbrev pub Searched : {A : Type 0} → (A → Bool) → A → List A → ℕ → Type 0
+Searched p d l i = (i ≤ length l) × ((k : ℕ) → k < i → p (getD l k d) ≡ true)
+
+module _ {A : Type 0} (p : A → Bool) (d : A) (l : List A) where
+  module _ {i : ℕ} (h : Searched p d l i) where
+    pub searched-all : length l ≤ i → i ≡ first p l
+    searched-all b = let e : i ≡ length l = omega arith in e ∙ first-none p l d (λ k u. h .1 k (omega arith))
+
+    -- v is what the code's test of place i gave
+    module _ (b : i < length l) {v : Bool} (e : v ≡ p (getD l i d)) where
+      pub searched-more : not v ≡ false → Searched p d l (i + 1)
+      searched-more t = (omega arith, below-more _ _ (h .1) (sym e ∙ not-false v t))
+
+      pub searched-here : not v ≡ true → i ≡ first p l
+      searched-here t = first-at p l d i b (h .1) (sym e ∙ not-true v t)
 
 pub first-le : {A : Type 0} (p : A → Bool) (l : List A) → first p l ≤ length l
 unfolding first
