@@ -37,6 +37,10 @@ use Rattle.config.proofs.half
 use Rattle.config.proofs.edges
 use Rattle.config.proofs.is_fft_size
 use Rattle.config.proofs.is_dct_length
+use Rattle.refusals.proofs.Verdict.told
+use Rattle.refusals.proofs.on_clear
+use Rattle.refusals.proofs.on_values
+use Rattle.refusals.proofs.on_energies
 use Rattle.windows.proofs.w_n60_7p5ms
 use Rattle.windows.proofs.w_n120_7p5ms
 use Rattle.windows.proofs.w_n180_7p5ms
@@ -219,6 +223,11 @@ pub record Entries (w : World) : Type 1 where
   pub edges : Entry w edges.ended edges.clauses
   pub is-fft-size : Entry w is_fft_size.ended is_fft_size.clauses
   pub is-dct-length : Entry w is_dct_length.ended is_dct_length.clauses
+  -- refusals
+  pub told : Entry w told.ended told.clauses
+  pub on-clear : Entry w on_clear.ended on_clear.clauses
+  pub on-values : Entry w on_values.ended on_values.clauses
+  pub on-energies : Entry w on_energies.ended on_energies.clauses
   -- windows
   pub w-n60-7p5ms : Entry w w_n60_7p5ms.ended w_n60_7p5ms.clauses
   pub w-n120-7p5ms : Entry w w_n120_7p5ms.ended w_n120_7p5ms.clauses
@@ -252,8 +261,9 @@ pub record Entries (w : World) : Type 1 where
   pub dct-160 : Entry w dct_160.ended dct_160.clauses
   pub dct-180 : Entry w dct_180.ended dct_180.clauses
   pub dct-240 : Entry w dct_240.ended dct_240.clauses
-  pub gain : Entry w gain.ended gain.clauses
   pub negate : Entry w negate.ended negate.clauses
+  -- gains
+  pub gain : Entry w gain.ended gain.clauses
   -- columns
   pub two : Entry w two.ended two.clauses
   pub three : Entry w three.ended three.clauses
