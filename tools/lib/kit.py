@@ -1,4 +1,3 @@
-#!/usr/bin/env python3
 """kit.py PROGRAM [WORD..]: prints the command that runs a program for x86-64 as the Rattle kit runs its own, quoted for a shell.
 
 That is under the kit's loader and C library, and on another processor under the kit's emulator. The kit is found by its command `rt`."""
