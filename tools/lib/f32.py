@@ -3,6 +3,10 @@ import math
 import struct
 from fractions import Fraction
 
+ZERO, MINUS_ZERO = 0x00000000, 0x80000000
+NAN, INFINITY, MINUS_INFINITY = 0x7FC00000, 0x7F800000, 0xFF800000
+GREATEST = 0x7F7FFFFF  # the greatest number that is finite
+
 
 def bits(number):
     """The bits of a float, rounded to f32."""
@@ -33,4 +37,4 @@ def nearest(negative, number):
     exponent -= number < Fraction(2) ** exponent
     exponent = min(max(exponent, -126), 127)
     found = round(number / Fraction(2) ** (exponent - 23)) + ((exponent + 126) << 23)
-    return min(found, 0x7F800000) | (0x80000000 if negative else 0)
+    return min(found, INFINITY) | (MINUS_ZERO if negative else ZERO)

@@ -5,10 +5,9 @@ f64 holds a product of two f32, and of their quotient and sum enough that roundi
 import struct
 
 from lib import answers, f32, lmc
-from lib.f32 import rounded, value
+from lib.f32 import INFINITY, MINUS_ZERO, rounded, value
 
 LIMIT = 0x5D800000  # 2^60
-INFINITY, MINUS_ZERO = 0x7F800000, 0x80000000
 
 
 def running(values):
