@@ -170,7 +170,7 @@ fn fold_n120_2p5ms(past: &[i16], input: &[i16], lines: &mut [f32])
     fold_with(19, &w_n120_2p5ms(), past, input, lines);
 }
 
-// The folded time buffer of a frame of more than 80 values. It stands apart so that a small one does not take the stack of the largeest.
+// The folded time buffer of a frame of more than 80 values. It stands apart so that a small one does not take the stack of the largest.
 fn fold_large(c: u8, past: &[i16], input: &[i16], lines: &mut [f32])
     requires { ⌜ (length (now past) ≡ nf c - z c) × (length (now input) ≡ nf c) × (length (now lines) ≡ nf c) × T (valid c) × (80 < nf c) ⌝ }
     ensures { λ _. ⌜ now (lines .exit) ≡ folded (nf c) (window c) (timeBuffer c (now (past .entry)) (now (input .entry))) ⌝ }

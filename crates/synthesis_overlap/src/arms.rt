@@ -262,7 +262,7 @@ fn overlap_n120_2p5ms(memory: &mut [f32], samples: &mut [f32])
     overlap_with(19, &w_n120_2p5ms(), &mut zeros_120(), memory, samples);
 }
 
-// The samples and the memory of a frame of more than 80 values. It stands apart so that a small one does not take the stack of the largeest.
+// The samples and the memory of a frame of more than 80 values. It stands apart so that a small one does not take the stack of the largest.
 fn overlap_large(c: u8, memory: &mut [f32], samples: &mut [f32])
     requires { ⌜ (length (now memory) ≡ nf c - z c) × (length (now samples) ≡ nf c) × T (valid c) × (80 < nf c) ⌝ }
     ensures memory { λ _. ⌜ now (memory .exit) ≡ remains (nf c) (z c) (windowed (window c) (unfolded (half c) (scaled (gain (nf c)) (now (samples .entry))))) ⌝ }
