@@ -77,7 +77,7 @@ module _ (n : ℕ) (s : T (among fftSizes n)) where
 
 -- ---- the plan's growth, and the gain that goes with it
 tame-test : T (every (λ k c. tame c) 0 configs)
-unfolding row rows half plan sizes gainBits gain ofBits ofFields odd trailingZeros
+unfolding row rows half plan lengths gainBits gain ofBits ofFields odd trailingZeros
 tame-test = tt
 
 pub tame-all : (c : ℕ) → T (valid c) → T (tame c)

@@ -39,5 +39,5 @@ not-within a (inf s) t h = h
 not-within a (fin s m e) t h = lt-irrefl (a * down e) (lt-of-lt-of-le (ltb→lt (a * down e) (m * up e * 1) t) h)
 
 pub reached : Reached
-unfolding cleared frames linesOf mdct timeBuffer bufferStep pastOf bufferOf scaled folded foldLow foldHigh weighed dctIv spectrum work column column2 column3 column5 stage plan twiddle fftImOf fftRe fftIm dctTwiddle dctRe dctIm gain start sizes fftReBits fftImBits dctReBits dctImBits gainBits windows.window windows.start entries row rows half tab ofBits ofFields odd trailingZeros units round neg sum add sub mul div ofInt energiesOf energies bandOf energy share edges edgeRows
+unfolding cleared frames linesOf mdct timeBuffer bufferStep pastOf bufferOf scaled folded foldLow foldHigh weighed dctIv spectrum work column column2 column3 column5 stage plan twiddle fftImOf fftRe fftIm dctTwiddle dctRe dctIm gain start sizes fftReBits fftImBits dctReBits dctImBits lengths gainBits windows.window windows.start entries row rows half tab ofBits ofFields odd trailingZeros units round neg sum add sub mul div ofInt energiesOf energies bandOf energy share edges edgeRows
 reached = record { line-above = not-within (2 ^ 16) line0 tt; energy-above = not-within (2 ^ 32) energy0 tt; square-is = refl; column-is = refl }
