@@ -19,7 +19,7 @@ use Rattle.bounds.specs.Within.{Each}
 use Rattle.bounds.specs.Size.{Size, Both}
 use Rattle.bounds.specs.Growth.{growth}
 use Rattle.bounds.proofs.Bound.{room, minus, product}
-use Rattle.bounds.proofs.Columns.{turned, up}
+use Rattle.bounds.proofs.Columns.{by-twiddle, up}
 use Rattle.bounds.proofs.Lists.{each-at, each-tab}
 use Rattle.bounds.proofs.Work.{transform-bound}
 use Rattle.bounds.proofs.Tables.{fft-small, dct-small}
@@ -46,7 +46,7 @@ module _ (n : ℕ) (s : T (among fftSizes n)) (k : ℕ) (K : k + 3 + growth (pla
   value i I = each-at nan i each (omega arith)
 
   twiddled : {j : ℕ} {i : ℕ} {x : Complex} → j ≤ 253 → i < n → Both j 1 x → Both (j + 1) 1 (times (d i) x)
-  twiddled {j} {i} J I h = up j J 1 (turned j J (omega arith) (dct-small n s i I) h) tt
+  twiddled {j} {i} J I h = up j J 1 (by-twiddle j J (omega arith) (dct-small n s i I) h) tt
 
   points : (i : ℕ) → i < n → Both (k + 1) 1 (point d buf i)
   points i I = twiddled (omega arith) I (record { r = value (2 * i) (omega arith); i = value (length buf - 2 * i - 1) (omega arith) })

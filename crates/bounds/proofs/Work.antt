@@ -13,12 +13,12 @@ use Rattle.kf_work.specs.Work.{span, planned, column, work}
 use Rattle.kf_work.proofs.Plan.{split, inner-positive, sub-nums}
 use Rattle.bounds.specs.Size.{Both, Small}
 use Rattle.bounds.specs.Growth.{Column, grow, growth}
-use Rattle.bounds.proofs.Columns.{turned, by2, by3, by4, by5}
+use Rattle.bounds.proofs.Columns.{by-twiddle, by2, by3, by4, by5}
 
 -- ---- numbers of a stage
 -- twiddle q * (j * s) is in the table
-turn-in : (q j m p s N : ℕ) → j < m → q < p → 0 < s → s * (p * m) ≡ N → q * (j * s) < N
-turn-in q j m p s N J Q S e =
+twiddle-in : (q j m p s N : ℕ) → j < m → q < p → 0 < s → s * (p * m) ≡ N → q * (j * s) < N
+twiddle-in q j m p s N J Q S e =
     lt-of-le-of-lt (le-of-eq (mul-left-comm q j s ∙ sym (mul-assoc j q s)))
     (lt-of-lt-of-le (mul-lt-mul-of-pos-right (lt-of-le-of-lt (mul-le-mul-left j (le-of-lt Q)) (mul-lt-mul-of-pos-right J (lt-of-le-of-lt zero-le Q))) S)
     (le-of-eq (mul-comm (m * p) s ∙ ap (λ (x : ℕ). s * x) (mul-comm m p) ∙ e)))
@@ -37,14 +37,14 @@ module _ (N : ℕ) (t : ℕ → Complex) (inverse : Bool) (small : (i : ℕ) →
     -- as its butterfly is handed it
     twisted : (k : ℕ) → k ≤ 253 → (c : ℕ → Complex) → 0 < p → ((q : ℕ) → q < p → Both k 1 (c q)) → Column k p (twist t (j * s) c)
     twisted k K c P C =
-        record { first = C 0 P; others = λ q Q. turned k K refl (C (suc q) Q) (small (suc q * (j * s)) (turn-in (suc q) j m p s N J Q S e)) }
+        record { first = C 0 P; others = λ q Q. by-twiddle k K refl (C (suc q) Q) (small (suc q * (j * s)) (twiddle-in (suc q) j m p s N J Q S e)) }
 
     -- a p-th of a turn, and more
-    turn : (q : ℕ) → q < p → Small (t (q * (s * m)))
-    turn q Q = small (q * (s * m)) (lt-of-lt-of-le (mul-lt-mul-of-pos-right Q (mul-pos S (lt-of-le-of-lt zero-le J))) (le-of-eq (mul-left-comm p s m ∙ e)))
+    fraction : (q : ℕ) → q < p → Small (t (q * (s * m)))
+    fraction q Q = small (q * (s * m)) (lt-of-lt-of-le (mul-lt-mul-of-pos-right Q (mul-pos S (lt-of-le-of-lt zero-le J))) (le-of-eq (mul-left-comm p s m ∙ e)))
 
-    one-turn : 1 < p → Small (t (s * m))
-    one-turn Q = subst (λ (n : ℕ). Small (t n)) (one-mul (s * m)) (turn 1 Q)
+    one-fraction : 1 < p → Small (t (s * m))
+    one-fraction Q = subst (λ (n : ℕ). Small (t n)) (one-mul (s * m)) (fraction 1 Q)
 
   pub column-bound : (k : ℕ) → k ≤ 253 → (p s m j : ℕ) → 2 ≤ p → p ≤ 5 → 0 < s → s * (p * m) ≡ N → j < m → (c : ℕ → Complex) → ((q : ℕ) → q < p → Both k 1 (c q))
       → (q : ℕ) → q < p → Both (k + grow p) 1 (column t inverse s p m j c q)
@@ -52,10 +52,10 @@ module _ (N : ℕ) (t : ℕ → Complex) (inverse : Bool) (small : (i : ℕ) →
   column-bound k K zero s m j l u S e J c C = absurd (omega arith)
   column-bound k K (suc zero) s m j l u S e J c C = absurd (omega arith)
   column-bound k K (suc (suc zero)) s m j l u S e J c C = by2 k K (twist t (j * s) c) (twisted 2 s m j S e J k K c (lit< tt) C)
-  column-bound k K (suc (suc (suc zero))) s m j l u S e J c C = by3 k K (twist t (j * s) c) (twisted 3 s m j S e J k K c (lit< tt) C) (t (s * m)) (one-turn 3 s m j S e J (lit< tt))
+  column-bound k K (suc (suc (suc zero))) s m j l u S e J c C = by3 k K (twist t (j * s) c) (twisted 3 s m j S e J k K c (lit< tt) C) (t (s * m)) (one-fraction 3 s m j S e J (lit< tt))
   column-bound k K (suc (suc (suc (suc zero)))) s m j l u S e J c C = by4 k K (twist t (j * s) c) (twisted 4 s m j S e J k K c (lit< tt) C) inverse
   column-bound k K (suc (suc (suc (suc (suc zero))))) s m j l u S e J c C =
-      by5 k K (twist t (j * s) c) (twisted 5 s m j S e J k K c (lit< tt) C) (t (s * m)) (t (2 * (s * m))) (one-turn 5 s m j S e J (lit< tt)) (turn 5 s m j S e J 2 (lit< tt))
+      by5 k K (twist t (j * s) c) (twisted 5 s m j S e J k K c (lit< tt) C) (t (s * m)) (t (2 * (s * m))) (one-fraction 5 s m j S e J (lit< tt)) (fraction 5 s m j S e J 2 (lit< tt))
   column-bound k K (suc (suc (suc (suc (suc (suc p)))))) s m j l u S e J c C = absurd (omega arith)
 
   -- ---- the whole FFT, of numbers x whose parts are at most 2 ^ k steps

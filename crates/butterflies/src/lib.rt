@@ -8,7 +8,7 @@ ghost use lib.ListN.{length};
 ghost use Rattle.complex.specs.Complex.{parts, at};
 ghost use Rattle.columns.specs.Column.{five, col, of5};
 ghost use Rattle.quads.specs.Beside.{twistBy, one32, beside2, beside3, beside4, beside5};
-ghost use Rattle.quads.specs.Rows.{writes};
+ghost use Rattle.quads.specs.Rows.{writes, Room};
 ghost use Rattle.butterflies.specs.Butterflies.{stage};
 use columns::Out5;
 use columns::five;
@@ -24,7 +24,7 @@ use quads::turn4;
 
 // Inner. The butterfly of radix 2 on the block's two parts of m places. Places past the block stay.
 pub fn kf_bfly2(re: &mut [f32], im: &mut [f32], tr: &[f32], ti: &[f32], m: usize)
-    requires { ⌜ (0 < m) × (m * 1 ≤ length (now tr)) × (m * 1 ≤ length (now ti)) × (m * 2 ≤ length (now re)) × (m * 2 ≤ length (now im)) ⌝ }
+    requires { ⌜ (0 < m) × Room 2 m (now tr) (now ti) (now re) (now im) ⌝ }
     ensures { λ _. ⌜ at (now (re .exit)) (now (im .exit)) ≡ stage 2 m (beside2 (at (now (tr .entry)) (now (ti .entry))) m) (at (now (re .entry)) (now (im .entry))) ⌝ }
 {
     for q in 0..m / 4 {
@@ -51,7 +51,7 @@ pub fn kf_bfly3(re: &mut [f32], im: &mut [f32], tr: &[f32], ti: &[f32], m: usize
 
 // Inner. The butterfly of radix 4 on the block's four parts of m places. Places past the block stay.
 pub fn kf_bfly4(re: &mut [f32], im: &mut [f32], tr: &[f32], ti: &[f32], m: usize, inverse: bool)
-    requires { ⌜ (0 < m) × (m * 3 ≤ length (now tr)) × (m * 3 ≤ length (now ti)) × (m * 4 ≤ length (now re)) × (m * 4 ≤ length (now im)) ⌝ }
+    requires { ⌜ (0 < m) × Room 4 m (now tr) (now ti) (now re) (now im) ⌝ }
     ensures { λ _. ⌜ at (now (re .exit)) (now (im .exit)) ≡ stage 4 m (beside4 inverse (at (now (tr .entry)) (now (ti .entry))) m) (at (now (re .entry)) (now (im .entry))) ⌝ }
 {
     for q in 0..m / 4 {

@@ -31,7 +31,7 @@ pub extern "C" fn loamscarf_fft(
     re_out: &mut [f32],
     im_out: &mut [f32],
 ) -> Verdict
-    ensures { λ r. ⌜ ft.left r (now («re_out» .exit)) (now («im_out» .exit)) ≡ ft.answer size inverse (now («re_in» .entry)) (now («im_in» .entry)) (now («re_out» .entry)) (now («im_out» .entry)) ⌝ }
+    ensures { λ r. ⌜ ft.outcome r (now («re_out» .exit)) (now («im_out» .exit)) ≡ ft.answer size inverse (now («re_in» .entry)) (now («im_in» .entry)) (now («re_out» .entry)) (now («im_out» .entry)) ⌝ }
 {
     kissfft::fft(size, inverse, re_in, im_in, re_out, im_out)
 }

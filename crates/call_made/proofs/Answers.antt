@@ -102,10 +102,10 @@ transformedAs z a m room n other = answerOf (a .judged .number) (a .judged .inde
 
 pub transformed-is : (b : List ℕ) (x : List Float) {y w : List Float} {l z : List ℕ} {m n size : ℕ} {room other : List Float} {inverse : Bool} (r : Verdict) (p q : List Float) →
     size ≡ short (drop 1 b) → inverse ≡ eqb (getD b 3 0) 1 → w ≡ y → Area l m room → Area (drop 2 l) n other → z ≡ peaks →
-    ft.left r p q ≡ ft.answer size inverse x w (take m room) (take n other) → transformedAs z (ft.left r p q) m room n other ≡ fftOn b x y l
+    ft.outcome r p q ≡ ft.answer size inverse x w (take m room) (take n other) → transformedAs z (ft.outcome r p q) m room n other ≡ fftOn b x y l
 unfolding fftOn
 transformed-is b x {m = m} {n = n} {room = room} {other = other} r p q es ei ey u v ez e =
-    ap (λ (z : List ℕ). transformedAs z (ft.left r p q) m room n other) ez
+    ap (λ (z : List ℕ). transformedAs z (ft.outcome r p q) m room n other) ez
     ∙ both-lent (transformedAs peaks) (λ j p q. ft.answer (es j) (ei j) x (ey j) p q) u v (sym e)
 
 -- 6: with what the DCT left

@@ -11,12 +11,12 @@ use Rattle.columns.specs.declared.Out3.{Out3}
 use Rattle.columns.specs.declared.Out4.{Out4}
 use Rattle.columns.specs.declared.Out5.{Out5}
 
--- x + i y, and x - i y
-abbrev pub left : Complex → Complex → Complex
-left x y = parts (sub binary32 (x .r) (y .i)) (add binary32 (x .i) (y .r))
+-- x + i y, and x - i y: x plus or minus y turned by a quarter
+abbrev pub plusQuarter : Complex → Complex → Complex
+plusQuarter x y = parts (sub binary32 (x .r) (y .i)) (add binary32 (x .i) (y .r))
 
-abbrev pub right : Complex → Complex → Complex
-right x y = parts (add binary32 (x .r) (y .i)) (sub binary32 (x .i) (y .r))
+abbrev pub minusQuarter : Complex → Complex → Complex
+minusQuarter x y = parts (add binary32 (x .r) (y .i)) (sub binary32 (x .i) (y .r))
 
 -- the column that holds these numbers
 abbrev pub col : List Complex → ℕ → Complex
@@ -36,7 +36,7 @@ three y c =
     let s3 = plus (c 1) (c 2) in
     let s0 = scale (minus (c 1) (c 2)) (y .i) in
     let x = minus (c 0) (scale s3 half) in
-    col (plus (c 0) s3 ∷ left x s0 ∷ right x s0 ∷ [])
+    col (plus (c 0) s3 ∷ plusQuarter x s0 ∷ minusQuarter x s0 ∷ [])
 
 -- `kf_bfly4`, whose quarter turn is the other way in the inverse transform
 abbrev pub four : Bool → (ℕ → Complex) → ℕ → Complex
@@ -45,7 +45,7 @@ four inverse c =
     let b = plus (c 0) (c 2) in
     let s3 = plus (c 1) (c 3) in
     let s4 = minus (c 1) (c 3) in
-    col (plus b s3 ∷ cond inverse (left s5 s4) (right s5 s4) ∷ minus b s3 ∷ cond inverse (right s5 s4) (left s5 s4) ∷ [])
+    col (plus b s3 ∷ cond inverse (plusQuarter s5 s4) (minusQuarter s5 s4) ∷ minus b s3 ∷ cond inverse (minusQuarter s5 s4) (plusQuarter s5 s4) ∷ [])
 
 -- of `kf_bfly5`: s0 + s7 x + s8 w, from the left (its scratch 5 and 11)
 abbrev pub mix : Complex → Complex → Complex → Float → Float → Complex

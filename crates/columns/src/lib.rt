@@ -2,7 +2,7 @@
 // Ported from kf_bfly2 to kf_bfly5 of src/common/kissfft.rs of lc3-codec 0.2.0, and changed: the arithmetic of a column in functions of its own.
 ghost use mathlib.Core.Path.{_≡_};
 ghost use mathlib.Core.List.{[], _∷_};
-ghost use Rattle.columns.specs.Column.{left, right, mix, near, far, two, three, four, five, col, of2, of3, of4, of5};
+ghost use Rattle.columns.specs.Column.{plusQuarter, minusQuarter, mix, near, far, two, three, four, five, col, of2, of3, of4, of5};
 use complex::Complex;
 
 pub struct Out2 {
@@ -31,9 +31,9 @@ pub struct Out5 {
     pub e: Complex,
 }
 
-// x + i y.
-fn left(x: Complex, y: Complex) -> Complex
-    ensures { λ r. ⌜ r ≡ left x y ⌝ }
+// x + i y: x plus y turned by a quarter.
+fn plus_quarter(x: Complex, y: Complex) -> Complex
+    ensures { λ r. ⌜ r ≡ plusQuarter x y ⌝ }
 {
     Complex {
         r: x.r - y.i,
@@ -41,9 +41,9 @@ fn left(x: Complex, y: Complex) -> Complex
     }
 }
 
-// x - i y.
-fn right(x: Complex, y: Complex) -> Complex
-    ensures { λ r. ⌜ r ≡ right x y ⌝ }
+// x - i y: x minus y turned by a quarter.
+fn minus_quarter(x: Complex, y: Complex) -> Complex
+    ensures { λ r. ⌜ r ≡ minusQuarter x y ⌝ }
 {
     Complex {
         r: x.r + y.i,
@@ -71,8 +71,8 @@ pub fn three(a: Complex, s1: Complex, s2: Complex, y: Complex) -> Out3
     let s0 = d.scaled(y.i);
     Out3 {
         a: a.add(s3),
-        b: left(x, s0),
-        c: right(x, s0),
+        b: plus_quarter(x, s0),
+        c: minus_quarter(x, s0),
     }
 }
 
@@ -87,16 +87,16 @@ pub fn four(a: Complex, s0: Complex, s1: Complex, s2: Complex, inverse: bool) ->
     if inverse {
         return Out4 {
             a: b.add(s3),
-            b: left(s5, s4),
+            b: plus_quarter(s5, s4),
             c: b.sub(s3),
-            d: right(s5, s4),
+            d: minus_quarter(s5, s4),
         };
     }
     Out4 {
         a: b.add(s3),
-        b: right(s5, s4),
+        b: minus_quarter(s5, s4),
         c: b.sub(s3),
-        d: left(s5, s4),
+        d: plus_quarter(s5, s4),
     }
 }
 

@@ -6,8 +6,8 @@ ghost use lib.Dec.{T};
 ghost use lib.ListN.{length};
 ghost use Rattle.config.specs.Config.{among, fftSizes};
 ghost use Rattle.dct_steps.specs.Dct.{dctIv};
-use dct_steps::turn_in;
-use dct_steps::turn_out;
+use dct_steps::twiddle_in;
+use dct_steps::twiddle_out;
 use fft_tables::fft_60;
 use fft_tables::fft_80;
 use fft_tables::fft_90;
@@ -44,7 +44,7 @@ pub fn by_60(buf: &mut [f32])
     let mut xi = [0.0f32; 60];
     let mut ar = [0.0f32; 60];
     let mut ai = [0.0f32; 60];
-    turn_in(buf, dr, di, &mut xr, &mut xi);
+    twiddle_in(buf, dr, di, &mut xr, &mut xi);
     let fft = fft_60();
     let t = &fft[..];
     transform(
@@ -57,7 +57,7 @@ pub fn by_60(buf: &mut [f32])
         &plan_60(),
         false,
     );
-    turn_out(&ar, &ai, dr, di, buf);
+    twiddle_out(&ar, &ai, dr, di, buf);
 }
 
 // Inner. The DCT-IV of 160 values.
@@ -73,7 +73,7 @@ pub fn by_80(buf: &mut [f32])
     let mut xi = [0.0f32; 80];
     let mut ar = [0.0f32; 80];
     let mut ai = [0.0f32; 80];
-    turn_in(buf, dr, di, &mut xr, &mut xi);
+    twiddle_in(buf, dr, di, &mut xr, &mut xi);
     let fft = fft_80();
     let t = &fft[..];
     transform(
@@ -86,7 +86,7 @@ pub fn by_80(buf: &mut [f32])
         &plan_80(),
         false,
     );
-    turn_out(&ar, &ai, dr, di, buf);
+    twiddle_out(&ar, &ai, dr, di, buf);
 }
 
 // Inner. The DCT-IV of 180 values.
@@ -102,7 +102,7 @@ pub fn by_90(buf: &mut [f32])
     let mut xi = [0.0f32; 90];
     let mut ar = [0.0f32; 90];
     let mut ai = [0.0f32; 90];
-    turn_in(buf, dr, di, &mut xr, &mut xi);
+    twiddle_in(buf, dr, di, &mut xr, &mut xi);
     let fft = fft_90();
     let t = &fft[..];
     transform(
@@ -115,7 +115,7 @@ pub fn by_90(buf: &mut [f32])
         &plan_90(),
         false,
     );
-    turn_out(&ar, &ai, dr, di, buf);
+    twiddle_out(&ar, &ai, dr, di, buf);
 }
 
 // Inner. The DCT-IV of 240 values.
@@ -131,7 +131,7 @@ pub fn by_120(buf: &mut [f32])
     let mut xi = [0.0f32; 120];
     let mut ar = [0.0f32; 120];
     let mut ai = [0.0f32; 120];
-    turn_in(buf, dr, di, &mut xr, &mut xi);
+    twiddle_in(buf, dr, di, &mut xr, &mut xi);
     let fft = fft_120();
     let t = &fft[..];
     transform(
@@ -144,7 +144,7 @@ pub fn by_120(buf: &mut [f32])
         &plan_120(),
         false,
     );
-    turn_out(&ar, &ai, dr, di, buf);
+    twiddle_out(&ar, &ai, dr, di, buf);
 }
 
 // Inner. The DCT-IV of 320 values.
@@ -160,7 +160,7 @@ pub fn by_160(buf: &mut [f32])
     let mut xi = [0.0f32; 160];
     let mut ar = [0.0f32; 160];
     let mut ai = [0.0f32; 160];
-    turn_in(buf, dr, di, &mut xr, &mut xi);
+    twiddle_in(buf, dr, di, &mut xr, &mut xi);
     let fft = fft_160();
     let t = &fft[..];
     transform(
@@ -173,7 +173,7 @@ pub fn by_160(buf: &mut [f32])
         &plan_160(),
         false,
     );
-    turn_out(&ar, &ai, dr, di, buf);
+    twiddle_out(&ar, &ai, dr, di, buf);
 }
 
 // Inner. The DCT-IV of 360 values.
@@ -189,7 +189,7 @@ pub fn by_180(buf: &mut [f32])
     let mut xi = [0.0f32; 180];
     let mut ar = [0.0f32; 180];
     let mut ai = [0.0f32; 180];
-    turn_in(buf, dr, di, &mut xr, &mut xi);
+    twiddle_in(buf, dr, di, &mut xr, &mut xi);
     let fft = fft_180();
     let t = &fft[..];
     transform(
@@ -202,7 +202,7 @@ pub fn by_180(buf: &mut [f32])
         &plan_180(),
         false,
     );
-    turn_out(&ar, &ai, dr, di, buf);
+    twiddle_out(&ar, &ai, dr, di, buf);
 }
 
 // Inner. The DCT-IV of 480 values.
@@ -218,7 +218,7 @@ pub fn by_240(buf: &mut [f32])
     let mut xi = [0.0f32; 240];
     let mut ar = [0.0f32; 240];
     let mut ai = [0.0f32; 240];
-    turn_in(buf, dr, di, &mut xr, &mut xi);
+    twiddle_in(buf, dr, di, &mut xr, &mut xi);
     let fft = fft_240();
     let t = &fft[..];
     transform(
@@ -231,5 +231,5 @@ pub fn by_240(buf: &mut [f32])
         &plan_240(),
         false,
     );
-    turn_out(&ar, &ai, dr, di, buf);
+    twiddle_out(&ar, &ai, dr, di, buf);
 }

@@ -6,8 +6,8 @@ ghost use lib.Dec.{T};
 ghost use lib.ListN.{length};
 ghost use Rattle.config.specs.Config.{among, fftSizes};
 ghost use Rattle.dct_steps.specs.Dct.{dctIv};
-use dct_steps::turn_in;
-use dct_steps::turn_out;
+use dct_steps::twiddle_in;
+use dct_steps::twiddle_out;
 use fft_tables::fft_10;
 use fft_tables::fft_20;
 use fft_tables::fft_30;
@@ -35,11 +35,11 @@ pub fn by_10(buf: &mut [f32])
     let mut xi = [0.0f32; 10];
     let mut ar = [0.0f32; 10];
     let mut ai = [0.0f32; 10];
-    turn_in(buf, dr, di, &mut xr, &mut xi);
+    twiddle_in(buf, dr, di, &mut xr, &mut xi);
     let fft = fft_10();
     let t = &fft[..];
     transform_10(&mut ar, &mut ai, &xr, &xi, &t[..9], &t[9..]);
-    turn_out(&ar, &ai, dr, di, buf);
+    twiddle_out(&ar, &ai, dr, di, buf);
 }
 
 // Inner. The DCT-IV of 40 values.
@@ -55,7 +55,7 @@ pub fn by_20(buf: &mut [f32])
     let mut xi = [0.0f32; 20];
     let mut ar = [0.0f32; 20];
     let mut ai = [0.0f32; 20];
-    turn_in(buf, dr, di, &mut xr, &mut xi);
+    twiddle_in(buf, dr, di, &mut xr, &mut xi);
     let fft = fft_20();
     let t = &fft[..];
     transform(
@@ -68,7 +68,7 @@ pub fn by_20(buf: &mut [f32])
         &plan_20(),
         false,
     );
-    turn_out(&ar, &ai, dr, di, buf);
+    twiddle_out(&ar, &ai, dr, di, buf);
 }
 
 // Inner. The DCT-IV of 60 values.
@@ -84,7 +84,7 @@ pub fn by_30(buf: &mut [f32])
     let mut xi = [0.0f32; 30];
     let mut ar = [0.0f32; 30];
     let mut ai = [0.0f32; 30];
-    turn_in(buf, dr, di, &mut xr, &mut xi);
+    twiddle_in(buf, dr, di, &mut xr, &mut xi);
     let fft = fft_30();
     let t = &fft[..];
     transform(
@@ -97,7 +97,7 @@ pub fn by_30(buf: &mut [f32])
         &plan_30(),
         false,
     );
-    turn_out(&ar, &ai, dr, di, buf);
+    twiddle_out(&ar, &ai, dr, di, buf);
 }
 
 // Inner. The DCT-IV of 80 values.
@@ -113,7 +113,7 @@ pub fn by_40(buf: &mut [f32])
     let mut xi = [0.0f32; 40];
     let mut ar = [0.0f32; 40];
     let mut ai = [0.0f32; 40];
-    turn_in(buf, dr, di, &mut xr, &mut xi);
+    twiddle_in(buf, dr, di, &mut xr, &mut xi);
     let fft = fft_40();
     let t = &fft[..];
     transform(
@@ -126,5 +126,5 @@ pub fn by_40(buf: &mut [f32])
         &plan_40(),
         false,
     );
-    turn_out(&ar, &ai, dr, di, buf);
+    twiddle_out(&ar, &ai, dr, di, buf);
 }

@@ -8,18 +8,17 @@ use lib.Dec.{T}
 use lib.Ieee.{Float, nan}
 use lib.ListN.{length, getD, take}
 use borrow.Rule.Slice.PartMut.{midOf}
-use Rattle.laws.specs.Lists.{tab}
 use Rattle.laws.proofs.Lists.{getD-tab}
 use Rattle.complex.specs.declared.Complex.{Complex}
 use Rattle.complex.specs.Complex.{at, times}
 use Rattle.config.specs.Config.{among, fftSizes}
 use Rattle.twiddles.specs.Twiddles.{twiddle, dctRe, dctIm, dctTable, dctTwiddle}
 use Rattle.twiddles.proofs.Sizes.{Halved, dct-halves}
-use Rattle.kf_work.specs.Work.{plan, spectrum, reals, imaginaries}
-use Rattle.kf_work.specs.Packed.{packedSpectrum}
+use Rattle.kf_work.specs.Work.{plan, spectrum, reals, imaginaries, BothParts}
+use Rattle.kf_work.specs.Packed.{packedSpectrum, PackedTransformed}
 use Rattle.fft_tables.specs.FftTables.{packedRe, packedImOf, packedTable}
 use Rattle.fft_tables.proofs.Packs.{packed-spectrum, packed-halves, packed-forward, some-size}
-use Rattle.dct_steps.specs.Dct.{point, placed, dctBy, dctIv}
+use Rattle.dct_steps.specs.Dct.{point, twiddledOut, dctBy, dctIv}
 use Rattle.dct_steps.proofs.Placed.{placed-ext}
 
 module _ (n : ℕ) (s : T (among fftSizes n)) where
@@ -44,16 +43,13 @@ module _ (n : ℕ) (s : T (among fftSizes n)) where
 
     -- what the FFT asks
     pub transforms : {lx ly la lb : ℕ} {p : List ℕ} → lx ≡ n → ly ≡ n → p ≡ plan n → la ≡ n → lb ≡ n
-        → T (among fftSizes lx) × (ly ≡ lx) × (lx ≡ 1 + length (take (n - 1) t)) × (lx ≡ 1 + length (midOf (n - 1) (length t - (n - 1)) t))
-        × (p ≡ plan lx) × (la ≡ lx) × (lb ≡ lx)
+        → (T (among fftSizes lx) × (ly ≡ lx) × (la ≡ lx) × (lb ≡ lx)) × (lx ≡ 1 + length (take (n - 1) t)) × (lx ≡ 1 + length (midOf (n - 1) (length t - (n - 1)) t))
+        × (p ≡ plan lx)
     transforms ex ey ep ea eb = (
-      subst (λ (k : ℕ). T (among fftSizes k)) (sym ex) s,
-      ey ∙ sym ex,
+      (subst (λ (k : ℕ). T (among fftSizes k)) (sym ex) s, ey ∙ sym ex, ea ∙ sym ex, eb ∙ sym ex),
       omega (arith, fft .re-fits, some-size n s),
       omega (arith, fft .im-fits, some-size n s),
       ep ∙ ap plan (sym ex),
-      ea ∙ sym ex,
-      eb ∙ sym ex,
     )
 
   -- the three steps, with the tables of the size
@@ -73,9 +69,8 @@ module _ (n : ℕ) (s : T (among fftSizes n)) where
     abbrev f : ℕ → Complex
     f = let x = point (dctTwiddle n) buf in spectrum (twiddle n false) false n (at (reals n x) (imaginaries n x))
 
-    pub is-dct : {m : ℕ} {x y a b out : List Float} → m ≡ n → (x ≡ reals m (point (at dr di) buf)) × (y ≡ imaginaries m (point (at dr di) buf)) → length x ≡ n
-        → (a ≡ reals (length x) (packedSpectrum (at tr ti) false (length x) (at x y))) × (b ≡ imaginaries (length x) (packedSpectrum (at tr ti) false (length x) (at x y)))
-        → out ≡ tab (length buf) (placed (λ k. times (at dr di k) (at a b k)) (length buf)) → out ≡ dctIv buf
+    pub is-dct : {m : ℕ} {x y a b out : List Float} → m ≡ n → BothParts m (point (at dr di) buf) x y → length x ≡ n → PackedTransformed false tr ti x y a b
+        → out ≡ twiddledOut (at dr di) (length buf) (at a b) → out ≡ dctIv buf
     unfolding dctIv dctTwiddle
     is-dct {x = x} {y = y} {a = a} {b = b} l₀ ex l ea e =
         e ∙ placed-ext n (length buf) _ _ even (λ k h. ap₂ times (ap (λ (g : ℕ → Complex). g k) twiddles) (each k h))

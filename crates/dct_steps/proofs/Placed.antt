@@ -1,5 +1,5 @@
--- The loop that writes the lines, two neighbours a turn; the numbers that the places look at; and the length that the DCT keeps. Assumes nothing.
-use mathlib.Core.Path.{_≡_, sym, ap, _∙_, subst}
+-- The loop that writes the lines, two neighbours a round; the numbers that the places look at; and the length that the DCT keeps. Assumes nothing.
+use mathlib.Core.Path.{_≡_, sym, _∙_, subst}
 use mathlib.Core.List.{List}
 use Prim.Native.Nat.{ℕ, _+_, _*_, _-_, _/_, _%_, _<_}
 use native.Mathlib.Omega.{arith}
@@ -22,7 +22,7 @@ module _ (c n : ℕ) (z : ℕ → Complex) (even : n ≡ 2 * c) (i : ℕ) (l : i
       let h : (n - 1 - (2 * i + 1)) / 2 ≡ c - 1 - i = omega arith in
       rw (ne-eqb ((2 * i + 1) % 2) 0 (λ e. omega arith), h)
 
-  -- a turn: the lower place is of number i, the upper of the number as far from the end
+  -- a round: the lower place is of number i, the upper of the number as far from the end
   pub two-more : {before buf out : List Float} {a b : Float} → length before ≡ n → Filled (placed z n) before (2 * i) buf
       → a ≡ mul binary32 (z i .r) double → b ≡ mul binary32 (neg (z (c - 1 - i) .i)) double
       → out ≡ set (set buf (2 * i) a) (2 * i + 1) b → Filled (placed z n) before (2 * (i + 1)) out

@@ -23,12 +23,15 @@ double = ofBits binary32 0x40000000
 abbrev pub placed : (ℕ → Complex) → ℕ → ℕ → Float
 placed z nf k = cond (eqb (k % 2) 0) (mul binary32 (z (k / 2) .r) double) (mul binary32 (neg (z ((nf - 1 - k) / 2) .i)) double)
 
+-- "twiddle again": the nf values that the transformed numbers f become, with the twiddles d
+abbrev pub twiddledOut : (ℕ → Complex) → ℕ → (ℕ → Complex) → List Float
+twiddledOut d nf f = tab nf (placed (λ n. times (d n) (f n)) nf)
+
 -- "forward FFT; twiddle again": the DCT with its twiddles d and the FFT's twiddles t, of c points
 abbrev pub dctBy : (ℕ → Complex) → (ℕ → Complex) → ℕ → List Float → List Float
 dctBy d t c buf =
     let x = point d buf in
-    let f = spectrum t false c (at (reals c x) (imaginaries c x)) in
-    tab (length buf) (placed (λ n. times (d n) (f n)) (length buf))
+    twiddledOut d (length buf) (spectrum t false c (at (reals c x) (imaginaries c x)))
 
 -- `run`
 unfoldable pub dctIv : List Float → List Float

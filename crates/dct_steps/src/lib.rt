@@ -3,18 +3,17 @@
 ghost use mathlib.Core.Path.{_≡_};
 ghost use Prim.Native.Nat.{_+_, _*_, _<_};
 ghost use lib.ListN.{length, set};
-ghost use Rattle.laws.specs.Lists.{tab};
-ghost use Rattle.complex.specs.Complex.{at, times};
-ghost use Rattle.kf_work.specs.Work.{reals, imaginaries};
-ghost use Rattle.dct_steps.specs.Dct.{point, placed};
+ghost use Rattle.complex.specs.Complex.{at};
+ghost use Rattle.kf_work.specs.Work.{BothParts};
+ghost use Rattle.dct_steps.specs.Dct.{point, twiddledOut};
 use complex::Complex;
 use complex::get;
 use complex::put;
 
 // Inner. The points: twiddle n times the value at 2n and the value as far from the end, whose place is counted down: worked out from n it costs more.
-pub fn turn_in(buf: &[f32], dr: &[f32], di: &[f32], xr: &mut [f32], xi: &mut [f32])
+pub fn twiddle_in(buf: &[f32], dr: &[f32], di: &[f32], xr: &mut [f32], xi: &mut [f32])
     requires { ⌜ (length (now buf) ≡ 2 * length (now xr)) × (length (now dr) ≡ length (now xr)) × (length (now di) ≡ length (now xr)) × (length (now xi) ≡ length (now xr)) ⌝ }
-    ensures { λ _. ⌜ (now (xr .exit) ≡ reals (length (now (xr .entry))) (point (at (now (dr .entry)) (now (di .entry))) (now (buf .entry)))) × (now (xi .exit) ≡ imaginaries (length (now (xr .entry))) (point (at (now (dr .entry)) (now (di .entry))) (now (buf .entry)))) ⌝ }
+    ensures { λ _. ⌜ BothParts (length (now (xr .entry))) (point (at (now (dr .entry)) (now (di .entry))) (now (buf .entry))) (now (xr .exit)) (now (xi .exit)) ⌝ }
 {
     let mut back = buf.len();
     for n in 0..xr.len() {
@@ -36,9 +35,9 @@ fn pair(buf: &mut [f32], k: usize, a: f32, b: f32)
 
 // Inner. The numbers twiddled again, and their parts doubled, the imaginary ones negated first. Place 2n is of number n and the next of the number as far
 // from the end: a number's own two places, far apart, cost more than twiddling it twice.
-pub fn turn_out(ar: &[f32], ai: &[f32], dr: &[f32], di: &[f32], buf: &mut [f32])
+pub fn twiddle_out(ar: &[f32], ai: &[f32], dr: &[f32], di: &[f32], buf: &mut [f32])
     requires { ⌜ (length (now buf) ≡ 2 * length (now ar)) × (length (now dr) ≡ length (now ar)) × (length (now di) ≡ length (now ar)) × (length (now ai) ≡ length (now ar)) ⌝ }
-    ensures { λ _. ⌜ now (buf .exit) ≡ tab (length (now (buf .entry))) (placed (λ n. times (at (now (dr .entry)) (now (di .entry)) n) (at (now (ar .entry)) (now (ai .entry)) n)) (length (now (buf .entry)))) ⌝ }
+    ensures { λ _. ⌜ now (buf .exit) ≡ twiddledOut (at (now (dr .entry)) (now (di .entry))) (length (now (buf .entry))) (at (now (ar .entry)) (now (ai .entry))) ⌝ }
 {
     let c = ar.len();
     for n in 0..c {

@@ -29,7 +29,7 @@ use Rattle.kf_work.proofs.Sizes as plans
 use Rattle.twiddles.specs.Tables.{sizes, fftReBits}
 use Rattle.twiddles.specs.Twiddles.{start, fftRe, fftIm, fftImOf, twiddle}
 use Rattle.twiddles.proofs.Sizes.{same-sizes, sized, Halved, halved}
-use Rattle.fft_tables.specs.FftTables.{order, read, packedRe, packedIm, packedImOf, packedTable, packedDirected, AllPacked}
+use Rattle.fft_tables.specs.FftTables.{order, read, packedRe, packedIm, packedImOf, packedTable, packedTableOf, AllPacked}
 
 -- a plan with a stage is of 2 or more
 span-two : (p : ℕ) (ps : List ℕ) → T (planned (p ∷ ps)) → 2 ≤ span (p ∷ ps)
@@ -56,14 +56,14 @@ module _ (t : ℕ → Complex) (n : ℕ) (still : parts one32 (t 0 .i) ≡ t 0) 
       sp : Split (p ∷ m ∷ r ∷ ps) p m (r ∷ ps)
       sp = split p m (r ∷ ps) h
 
-      turns : ℕ → ℕ
-      turns k = suc (k / m) * (k % m * s)
+      reads : ℕ → ℕ
+      reads k = suc (k / m) * (k % m * s)
 
       stage : List ℕ
-      stage = tab (m * (p - 1)) turns
+      stage = tab (m * (p - 1)) reads
 
       stage-length : length stage ≡ m * (p - 1)
-      stage-length = length-tab (m * (p - 1)) turns
+      stage-length = length-tab (m * (p - 1)) reads
 
       inner-stages : List ℕ
       inner-stages = order (r ∷ ps) (s * p)
@@ -73,7 +73,7 @@ module _ (t : ℕ → Complex) (n : ℕ) (still : parts one32 (t 0 .i) ≡ t 0) 
           let part : suc q ≤ p - 1 = omega arith in
           let inside : j + m * q < m * (p - 1) = omega (arith, mul-le-mul-left m part, mul-suc m q) in
           o (j + m * q) (omega (arith, length-append stage inner-stages, stage-length))
-          ∙ ap t (List·getD-append stage inner-stages 0 (j + m * q) (omega (arith, stage-length)) ∙ getD-tab (m * (p - 1)) turns 0 (j + m * q) inside)
+          ∙ ap t (List·getD-append stage inner-stages 0 (j + m * q) (omega (arith, stage-length)) ∙ getD-tab (m * (p - 1)) reads 0 (j + m * q) inside)
           ∙ rw (col-of m j q l, part-of m j q l)
 
       a-third : p ≡ 3 → u (3 * m - 2) ≡ t (s * m)
@@ -111,9 +111,9 @@ module _ (n : ℕ) (s : T (among fftSizes n)) where
   unfolding read
   read-length = length-append (order (plan n) 1) _ ∙ omega (arith, ordered)
 
-  no-turn : getD (fftRe n) 0 nan ≡ one32
+  first-is-one : getD (fftRe n) 0 nan ≡ one32
   unfolding fftRe
-  no-turn =
+  first-is-one =
       let bits = take n (drop (start n) fftReBits) in
       let first : getD bits 0 0 ≡ 0x3f800000 = eqb→eq _ _ (and-r (eqb (suc (length (order (plan n) 1))) (n - 1)) _ (at-among fits sizes test n of-tables)) in
       getD-map (ofBits binary32) bits 0 0 nan (omega (arith, length-map (ofBits binary32) bits, sized n of-tables .fft-re, ordered)) ∙ ap (ofBits binary32) first
@@ -134,7 +134,7 @@ module _ (n : ℕ) (s : T (among fftSizes n)) where
     pub packs : Packed (twiddle n inverse) (plan n) 1 (at (packedRe n) (packedImOf inverse n))
     unfolding read twiddle
     packs =
-        packed (twiddle n inverse) n (ap (λ (x : Float). parts x (twiddle n inverse 0 .i)) (sym no-turn)) (plan n) 1 _
+        packed (twiddle n inverse) n (ap (λ (x : Float). parts x (twiddle n inverse 0 .i)) (sym first-is-one)) (plan n) 1 _
         (plan-is .plan-radixes) (one-mul (span (plan n)) ∙ plan-is .whole) in-order third
       where
         plan-is : Sized n
@@ -173,20 +173,20 @@ module _ (n : ℕ) (s : T (among fftSizes n)) where
   im-of-length false = im-length
   im-of-length true = length-map neg (packedIm n) ∙ im-length
 
-  pub packed-halves : (inverse : Bool) (t : List Float) → t ≡ packedDirected inverse n → Halved (n - 1) (packedRe n) (packedImOf inverse n) t
-  unfolding packedDirected
+  pub packed-halves : (inverse : Bool) (t : List Float) → t ≡ packedTableOf inverse n → Halved (n - 1) (packedRe n) (packedImOf inverse n) t
+  unfolding packedTableOf
   packed-halves inverse t e = halved (n - 1) (packedRe n) (packedImOf inverse n) t e re-length (im-of-length inverse)
 
   -- the forward table with its imaginary parts negated is the inverse's
-  pub packed-inverted : (t : List Float) → t ≡ packedTable n → take (n - 1) t ++ map neg (drop (n - 1) t) ≡ packedDirected true n
-  unfolding packedTable packedDirected packedImOf
+  pub packed-inverted : (t : List Float) → t ≡ packedTable n → take (n - 1) t ++ map neg (drop (n - 1) t) ≡ packedTableOf true n
+  unfolding packedTable packedTableOf packedImOf
   packed-inverted t e =
       ap₂ (λ (a b : List Float). a ++ map neg b)
       (ap₂ take (sym re-length) e ∙ take-append-seam (packedRe n) (packedIm n))
       (ap₂ drop (sym re-length) e ∙ drop-append-seam (packedRe n) (packedIm n))
 
-pub packed-forward : (n : ℕ) → packedTable n ≡ packedDirected false n
-unfolding packedTable packedDirected packedImOf
+pub packed-forward : (n : ℕ) → packedTable n ≡ packedTableOf false n
+unfolding packedTable packedTableOf packedImOf
 packed-forward n = refl
 
 pub all-packed : AllPacked

@@ -40,9 +40,9 @@ unfoldable pub packedImOf : Bool → ℕ → List Float
 packedImOf false n = packedIm n
 packedImOf true n = map neg (packedIm n)
 
--- the table of size n as the direction has it
-unfoldable pub packedDirected : Bool → ℕ → List Float
-packedDirected inverse n = packedRe n ++ packedImOf inverse n
+-- the table of size n of a direction
+unfoldable pub packedTableOf : Bool → ℕ → List Float
+packedTableOf inverse n = packedRe n ++ packedImOf inverse n
 
 -- at every size, forward and inverse, the packed table has at each place the twiddle that its stage reads there
 abbrev pub AllPacked : Type 0

@@ -2,101 +2,79 @@
 ghost use mathlib.Core.Path.{_≡_};
 ghost use Rattle.kf_work.specs.Work.{plan};
 
-const PLAN_10: [usize; 4] = [2, 5, 5, 1];
-
 // Entry. The plan of size 10: radix, inner length, radix, inner length, .. down to 1.
 pub fn plan_10() -> [usize; 4]
     ensures { λ r. ⌜ r ≡ plan 10 ⌝ }
 {
-    PLAN_10
+    [2, 5, 5, 1]
 }
-
-const PLAN_20: [usize; 4] = [4, 5, 5, 1];
 
 // Entry. The plan of size 20: radix, inner length, radix, inner length, .. down to 1.
 pub fn plan_20() -> [usize; 4]
     ensures { λ r. ⌜ r ≡ plan 20 ⌝ }
 {
-    PLAN_20
+    [4, 5, 5, 1]
 }
-
-const PLAN_30: [usize; 6] = [2, 15, 3, 5, 5, 1];
 
 // Entry. The plan of size 30: radix, inner length, radix, inner length, .. down to 1.
 pub fn plan_30() -> [usize; 6]
     ensures { λ r. ⌜ r ≡ plan 30 ⌝ }
 {
-    PLAN_30
+    [2, 15, 3, 5, 5, 1]
 }
-
-const PLAN_40: [usize; 6] = [4, 10, 2, 5, 5, 1];
 
 // Entry. The plan of size 40: radix, inner length, radix, inner length, .. down to 1.
 pub fn plan_40() -> [usize; 6]
     ensures { λ r. ⌜ r ≡ plan 40 ⌝ }
 {
-    PLAN_40
+    [4, 10, 2, 5, 5, 1]
 }
-
-const PLAN_60: [usize; 6] = [4, 15, 3, 5, 5, 1];
 
 // Entry. The plan of size 60: radix, inner length, radix, inner length, .. down to 1.
 pub fn plan_60() -> [usize; 6]
     ensures { λ r. ⌜ r ≡ plan 60 ⌝ }
 {
-    PLAN_60
+    [4, 15, 3, 5, 5, 1]
 }
-
-const PLAN_80: [usize; 6] = [4, 20, 4, 5, 5, 1];
 
 // Entry. The plan of size 80: radix, inner length, radix, inner length, .. down to 1.
 pub fn plan_80() -> [usize; 6]
     ensures { λ r. ⌜ r ≡ plan 80 ⌝ }
 {
-    PLAN_80
+    [4, 20, 4, 5, 5, 1]
 }
-
-const PLAN_90: [usize; 8] = [2, 45, 3, 15, 3, 5, 5, 1];
 
 // Entry. The plan of size 90: radix, inner length, radix, inner length, .. down to 1.
 pub fn plan_90() -> [usize; 8]
     ensures { λ r. ⌜ r ≡ plan 90 ⌝ }
 {
-    PLAN_90
+    [2, 45, 3, 15, 3, 5, 5, 1]
 }
-
-const PLAN_120: [usize; 8] = [4, 30, 2, 15, 3, 5, 5, 1];
 
 // Entry. The plan of size 120: radix, inner length, radix, inner length, .. down to 1.
 pub fn plan_120() -> [usize; 8]
     ensures { λ r. ⌜ r ≡ plan 120 ⌝ }
 {
-    PLAN_120
+    [4, 30, 2, 15, 3, 5, 5, 1]
 }
-
-const PLAN_160: [usize; 8] = [4, 40, 4, 10, 2, 5, 5, 1];
 
 // Entry. The plan of size 160: radix, inner length, radix, inner length, .. down to 1.
 pub fn plan_160() -> [usize; 8]
     ensures { λ r. ⌜ r ≡ plan 160 ⌝ }
 {
-    PLAN_160
+    [4, 40, 4, 10, 2, 5, 5, 1]
 }
-
-const PLAN_180: [usize; 8] = [4, 45, 3, 15, 3, 5, 5, 1];
 
 // Entry. The plan of size 180: radix, inner length, radix, inner length, .. down to 1.
 pub fn plan_180() -> [usize; 8]
     ensures { λ r. ⌜ r ≡ plan 180 ⌝ }
 {
-    PLAN_180
+    [4, 45, 3, 15, 3, 5, 5, 1]
 }
-
-const PLAN_240: [usize; 8] = [4, 60, 4, 15, 3, 5, 5, 1];
 
 // Entry. The plan of size 240: radix, inner length, radix, inner length, .. down to 1.
 pub fn plan_240() -> [usize; 8]
     ensures { λ r. ⌜ r ≡ plan 240 ⌝ }
 {
-    PLAN_240
+    [4, 60, 4, 15, 3, 5, 5, 1]
 }

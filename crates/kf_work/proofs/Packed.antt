@@ -14,7 +14,7 @@ use Rattle.quads.proofs.Read.{sees2, sees3, sees4, sees5}
 use Rattle.butterflies.specs.Butterflies.{stage, twist, column2, column3, column4, column5}
 use Rattle.kf_work.specs.Work.{planned, column, work}
 use Rattle.kf_work.specs.Packed.{after, packedColumn, fives, packedWork, Packed}
-use Rattle.kf_work.proofs.Plan.{split, and-l, and-r, inner-positive}
+use Rattle.kf_work.proofs.Plan.{by-radix, split, and-l, and-r, inner-positive}
 
 stage-alike : (p m : ℕ) (b b′ : ℕ → (ℕ → Complex) → ℕ → Complex) → 0 < m → ((j : ℕ) → j < m → (c : ℕ → Complex) → b j c ≡ b′ j c)
     → (f : ℕ → Complex) → stage p m b f ≡ stage p m b′ f
@@ -27,16 +27,15 @@ twist-alike w t k p c e zero l = refl
 twist-alike w t k p c e (suc q) l = ap (times (c (suc q))) (e q l)
 
 module _ (t u : ℕ → Complex) (inverse : Bool) (s m j : ℕ) (c : ℕ → Complex) where
-  column-alike : (p : ℕ) → 2 ≤ p → p ≤ 4 → ((q : ℕ) → suc q < p → beside u m j q ≡ t (suc q * (j * s))) → (p ≡ 3 → u (3 * m - 2) ≡ t (s * m))
-      → packedColumn u inverse p m j c ≡ column t inverse s p m j c
+  abbrev Alike : ℕ → Type 0
+  Alike p = ((q : ℕ) → suc q < p → beside u m j q ≡ t (suc q * (j * s))) → (p ≡ 3 → u (3 * m - 2) ≡ t (s * m)) → packedColumn u inverse p m j c ≡ column t inverse s p m j c
+
+  column-alike : (p : ℕ) → 2 ≤ p → p ≤ 4 → Alike p
   unfolding packedColumn column beside2 beside3 beside4 column2 column3 column4
-  column-alike zero l h e e3 = absurd (omega arith)
-  column-alike (suc zero) l h e e3 = absurd (omega arith)
-  column-alike (suc (suc zero)) l h e e3 = sees2 _ _ (twist-alike (beside u m j) t (j * s) 2 c e)
-  column-alike (suc (suc (suc zero))) l h e e3 =
-      ap (λ (y : Complex). three y (twistBy (beside u m j) c)) (e3 refl) ∙ sees3 (t (s * m)) _ _ (twist-alike (beside u m j) t (j * s) 3 c e)
-  column-alike (suc (suc (suc (suc zero)))) l h e e3 = sees4 inverse _ _ (twist-alike (beside u m j) t (j * s) 4 c e)
-  column-alike (suc (suc (suc (suc (suc p))))) l h e e3 = absurd (omega arith)
+  column-alike =
+      by-radix Alike (λ e e3. sees2 _ _ (twist-alike (beside u m j) t (j * s) 2 c e))
+      (λ e e3. ap (λ (y : Complex). three y (twistBy (beside u m j) c)) (e3 refl) ∙ sees3 (t (s * m)) _ _ (twist-alike (beside u m j) t (j * s) 3 c e))
+      (λ e e3. sees4 inverse _ _ (twist-alike (beside u m j) t (j * s) 4 c e))
 
   innermost-alike : j < 1 → (parts one32 (u 0 .i) ≡ t 0) × (u 1 ≡ t s) × (u 2 ≡ t (2 * s)) → packedColumn u inverse 5 1 j c ≡ column t inverse s 5 1 j c
   unfolding packedColumn column beside5 column5

@@ -11,6 +11,15 @@ use lib.Seq.{take-all}
 use Rattle.kf_work.specs.Work.{span, planned}
 use Rattle.kf_work.specs.Packed.{fives}
 
+-- a radix above the innermost stage is 2, 3 or 4
+pub by-radix : (P : ℕ → Type 0) → P 2 → P 3 → P 4 → (p : ℕ) → 2 ≤ p → p ≤ 4 → P p
+by-radix P p2 p3 p4 zero l h = absurd (omega arith)
+by-radix P p2 p3 p4 (suc zero) l h = absurd (omega arith)
+by-radix P p2 p3 p4 (suc (suc zero)) l h = p2
+by-radix P p2 p3 p4 (suc (suc (suc zero))) l h = p3
+by-radix P p2 p3 p4 (suc (suc (suc (suc zero)))) l h = p4
+by-radix P p2 p3 p4 (suc (suc (suc (suc (suc p))))) l h = absurd (omega arith)
+
 -- the numbers of a stage whose radix is known
 pub at-radix : (p q m a b c d : ℕ) → p ≡ q → m * p ≤ 1 + a → m * p ≤ 1 + b → m * p ≤ c → m * p ≤ d → (m * q ≤ 1 + a) × (m * q ≤ 1 + b) × (m * q ≤ c) × (m * q ≤ d)
 at-radix p q m a b c d e ha hb hc hd = rw (← e) (ha, hb, hc, hd)
@@ -107,12 +116,7 @@ below (p ∷ m ∷ r ∷ ps) h v =
     }
   where
     no-fifth : (p m : ℕ) → 2 ≤ p → p ≤ 4 → p * m ≡ 5 → ⊥
-    no-fifth zero m l h e = omega arith
-    no-fifth (suc zero) m l h e = omega arith
-    no-fifth (suc (suc zero)) m l h e = omega arith
-    no-fifth (suc (suc (suc zero))) m l h e = omega arith
-    no-fifth (suc (suc (suc (suc zero)))) m l h e = omega arith
-    no-fifth (suc (suc (suc (suc (suc p))))) m l h e = omega arith
+    no-fifth p m = by-radix (λ p. p * m ≡ 5 → ⊥) (λ e. omega arith) (λ e. omega arith) (λ e. omega arith) p
 
 -- of a plan that `kf_work` takes
 pub record Taken (ps : List ℕ) (p : ℕ) (rest : List ℕ) : Type 0 where

@@ -14,7 +14,7 @@ use Rattle.config.specs.Config.{row, half, among, fftSizes}
 use Rattle.config.proofs.Among.{at-among}
 use Rattle.complex.specs.declared.Complex.{Complex}
 use Rattle.complex.specs.Complex.{at}
-use Rattle.kf_work.specs.Work.{plan, span, planned, within, spectrum, reals, imaginaries}
+use Rattle.kf_work.specs.Work.{plan, span, planned, within, spectrum, BothParts}
 use Rattle.kf_work.specs.Packed.{fives, packedWork, packedSpectrum, Packed}
 use Rattle.kf_work.specs.Sized.{Sized, AllSized}
 use Rattle.kf_work.proofs.Spread.{within-lt}
@@ -41,14 +41,14 @@ sized n s =
 
 -- lists whose places are those of f
 pub are-lists : (n : ℕ) (f g : ℕ → Complex) (re im : List Float) → length re ≡ n → length im ≡ n → at re im ≡ within n f g
-    → (re ≡ reals n f) × (im ≡ imaginaries n f)
+    → BothParts n f re im
 are-lists n f g re im er ei e =
     let each : (k : ℕ) → k < n → at re im k ≡ f k = λ k l. ap (λ (c : ℕ → Complex). c k) e ∙ within-lt n f g k l in
     (is-tab nan re n _ er (λ k l. ap (λ (z : Complex). z .r) (each k l)), is-tab nan im n _ ei (λ k l. ap (λ (z : Complex). z .i) (each k l)))
 
 -- the transform by a plan that is lent
 pub by-plan : (n : ℕ) → Sized n → (u x g : ℕ → Complex) (inverse : Bool) (ps : List ℕ) (re im : List Float) → ps ≡ plan n → length re ≡ n → length im ≡ n
-    → at re im ≡ within (span ps) (packedWork u inverse x ps 1 0) g → (re ≡ reals n (packedSpectrum u inverse n x)) × (im ≡ imaginaries n (packedSpectrum u inverse n x))
+    → at re im ≡ within (span ps) (packedWork u inverse x ps 1 0) g → BothParts n (packedSpectrum u inverse n x) re im
 unfolding packedSpectrum
 by-plan n s u x g inverse ps re im e er ei h = are-lists n (packedSpectrum u inverse n x) g re im er ei (rw (e, s .whole) at h)
 

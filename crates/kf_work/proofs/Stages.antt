@@ -2,7 +2,7 @@
 use mathlib.Core.Path.{_≡_, ap, ap₂, _∙_, sym, fun-ext}
 use mathlib.Core.Bool.{Bool}
 use mathlib.Core.List.{List}
-use Prim.Native.Nat.{ℕ, zero, suc, _+_, _*_, _/_, _%_, _<_, _≤_}
+use Prim.Native.Nat.{ℕ, _+_, _*_, _/_, _%_, _<_, _≤_}
 use native.Mathlib.Nat.{mul-le-mul-left, mul-comm, mul-suc, mod-lt}
 use native.Mathlib.Decide.{decLt}
 use native.Mathlib.Omega.{arith}
@@ -14,7 +14,7 @@ use Rattle.butterflies.proofs.Local.{local2, local3, local4}
 use Rattle.kf_work.specs.Work.{within, span}
 use Rattle.kf_work.specs.Packed.{after, packedColumn, packedWork}
 use Rattle.kf_work.proofs.Spread.{within-lt, within-ge}
-use Rattle.kf_work.proofs.Plan.{Split, whole, inner-positive}
+use Rattle.kf_work.proofs.Plan.{by-radix, Split, whole, inner-positive}
 
 -- the sub-transforms of m places each, one after the other
 abbrev pub blocks : (ℕ → ℕ → Complex) → ℕ → ℕ → ℕ → ℕ → Complex
@@ -22,12 +22,7 @@ blocks w m s o k = w (o + k / m * s) (k % m)
 
 column-local : (u : ℕ → Complex) (inverse : Bool) (p m : ℕ) → 2 ≤ p → p ≤ 4 → Local p m (packedColumn u inverse p m)
 unfolding packedColumn
-column-local u inverse zero m l h = absurd (omega arith)
-column-local u inverse (suc zero) m l h = absurd (omega arith)
-column-local u inverse (suc (suc zero)) m l h = local2 u m
-column-local u inverse (suc (suc (suc zero))) m l h = local3 u m _
-column-local u inverse (suc (suc (suc (suc zero)))) m l h = local4 u m inverse
-column-local u inverse (suc (suc (suc (suc (suc p))))) m l h = absurd (omega arith)
+column-local u inverse p m = by-radix (λ p. Local p m (packedColumn u inverse p m)) (local2 u m) (local3 u m _) (local4 u m inverse) p
 
 -- a stage looks at its block alone
 stage-local : (p m : ℕ) (b : ℕ → (ℕ → Complex) → ℕ → Complex) → Local p m b → 0 < m → (f g : ℕ → Complex) → ((k : ℕ) → k < p * m → f k ≡ g k)

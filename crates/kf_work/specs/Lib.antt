@@ -1,3 +1,4 @@
 pub mod Work
 pub mod Sized
 pub mod Packed
+pub mod Lent

@@ -4,10 +4,12 @@ use mathlib.Core.Bool.{Bool, false, cond, _&&_}
 use mathlib.Core.List.{List, [], _∷_}
 use Prim.Native.Nat.{ℕ, suc, _+_, _*_, _-_, _/_, _%_, _<_}
 use lib.Dec.{leb, eqb}
+use lib.ListN.{length, getD}
+use lib.Ieee.{Float}
 use Rattle.complex.specs.declared.Complex.{Complex}
-use Rattle.complex.specs.Complex.{parts}
+use Rattle.complex.specs.Complex.{parts, at}
 use Rattle.butterflies.specs.Butterflies.{stage}
-use Rattle.kf_work.specs.Work.{plan}
+use Rattle.kf_work.specs.Work.{plan, span, within, BothParts}
 use Rattle.quads.specs.Beside.{one32, beside, beside2, beside3, beside4, beside5}
 
 -- what is left of a table for the rest of the plan, after the twiddles of a stage of radix p with parts of m places
@@ -37,9 +39,21 @@ packedWork u inverse x (p ∷ m ∷ ps) s o k =
 unfoldable pub innermost : (ℕ → Complex) → (ℕ → Complex) → ℕ → ℕ → ℕ → Complex
 innermost u x s o = beside5 u (λ q. x (o + q * s))
 
+-- g with the innermost stages below the first radix of the plan in its first places, one after the other
+abbrev pub leaves : List ℕ → ℕ → ℕ → (ℕ → Complex) → (ℕ → Complex) → (ℕ → Complex) → ℕ → Complex
+leaves ps s o u x g = let p = getD ps 0 0 in within (p * 5) (λ k. innermost u x (s * p) (o + k / 5 * s) (k % 5)) g
+
+-- g with the transform by the plan in its first places
+abbrev pub worked : List ℕ → ℕ → ℕ → Bool → (ℕ → Complex) → (ℕ → Complex) → (ℕ → Complex) → ℕ → Complex
+worked ps s o inverse u x g = within (span ps) (packedWork u inverse x ps s o) g
+
 -- `spectrum`, with the packed table u
 unfoldable pub packedSpectrum : (ℕ → Complex) → Bool → ℕ → (ℕ → Complex) → ℕ → Complex
 packedSpectrum u inverse n x = packedWork u inverse x (plan n) 1 0
+
+-- re and im are the two parts of the transform of the numbers in x and y, with the packed table in tr and ti
+abbrev pub PackedTransformed : Bool → List Float → List Float → List Float → List Float → List Float → List Float → Type 0
+PackedTransformed inverse tr ti x y re im = let n = length x in BothParts n (packedSpectrum (at tr ti) inverse n (at x y)) re im
 
 -- The table u has of the twiddles t those that the plan reads at stride s. Of the innermost stage: no turn, a fifth and two fifths. Of every other: twiddle q j s
 -- at place j of part q, and in radix 3 a third of a turn at its end.

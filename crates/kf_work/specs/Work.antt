@@ -1,4 +1,5 @@
 -- The transform (kissfft.rs): the plan of a size, and what each place of the output is. Definitions only.
+use mathlib.Core.Path.{_≡_}
 use mathlib.Core.Bool.{Bool, true, false, cond, _&&_}
 use mathlib.Core.List.{List, [], _∷_}
 use Prim.Native.Nat.{ℕ, zero, suc, _+_, _*_, _/_, _%_}
@@ -66,3 +67,7 @@ reals n f = tab n (λ k. f k .r)
 
 abbrev pub imaginaries : ℕ → (ℕ → Complex) → List Float
 imaginaries n f = tab n (λ k. f k .i)
+
+-- re and im are the two parts of n places of f
+abbrev pub BothParts : ℕ → (ℕ → Complex) → List Float → List Float → Type 0
+BothParts n f re im = (re ≡ reals n f) × (im ≡ imaginaries n f)

@@ -3,15 +3,14 @@
 // lent, the twiddles in the order in which the stages read them; the innermost stage is done in the one above it. The butterflies are a crate below this one.
 ghost use mathlib.Core.Path.{_≡_};
 ghost use mathlib.Core.Bool.{false};
-ghost use Prim.Native.Nat.{_+_, _*_, _/_, _%_, _<_, _≤_};
-ghost use lib.Dec.{T};
+ghost use Prim.Native.Nat.{_+_, _*_, _<_, _≤_};
 ghost use lib.ListN.{length, getD};
 ghost use Rattle.complex.specs.Complex.{at};
 ghost use Rattle.columns.specs.Column.{of5};
 ghost use Rattle.butterflies.specs.Butterflies.{stage};
-ghost use Rattle.config.specs.Config.{among, fftSizes};
-ghost use Rattle.kf_work.specs.Work.{plan, span, planned, within, reals, imaginaries};
-ghost use Rattle.kf_work.specs.Packed.{packedColumn, fives, packedWork, innermost, packedSpectrum};
+ghost use Rattle.kf_work.specs.Work.{plan};
+ghost use Rattle.kf_work.specs.Packed.{packedColumn, leaves, worked, PackedTransformed};
+ghost use Rattle.kf_work.specs.Lent.{LeavesFit, WorkFits, TransformFits};
 use butterflies::fives2;
 use butterflies::fives3;
 use butterflies::kf_bfly2;
@@ -37,8 +36,8 @@ fn copied(x: &[f32], y: &[f32], s: usize, from: usize) -> Out5
     }
 }
 
-// The innermost stages below the plan's first radix, which they are as many as, one after the other. The radix is read at each turn: of a loop with a known
-// count the compiler makes a second, for many turns, which never runs and takes 480 bytes of the stack of each stage.
+// The innermost stages below the plan's first radix, which they are as many as, one after the other. The radix is read at each round: of a loop with a known
+// count the compiler makes a second, for many rounds, which never runs and takes 480 bytes of the stack of each stage.
 fn kf_leaves(
     re: &mut [f32],
     im: &mut [f32],
@@ -50,8 +49,8 @@ fn kf_leaves(
     fstride: usize,
     from: usize,
 )
-    requires { ⌜ (0 < length (now plan)) × («from» < fstride) × (5 * (fstride * getD (now plan) 0 0) ≤ length (now x)) × (5 * (fstride * getD (now plan) 0 0) ≤ length (now y)) × (3 ≤ length (now tr)) × (3 ≤ length (now ti)) × (getD (now plan) 0 0 * 5 ≤ length (now re)) × (getD (now plan) 0 0 * 5 ≤ length (now im)) ⌝ }
-    ensures { λ _. ⌜ at (now (re .exit)) (now (im .exit)) ≡ within (getD (now (plan .entry)) 0 0 * 5) (λ k. innermost (at (now (tr .entry)) (now (ti .entry))) (at (now (x .entry)) (now (y .entry))) (fstride * getD (now (plan .entry)) 0 0) («from» + k / 5 * fstride) (k % 5)) (at (now (re .entry)) (now (im .entry))) ⌝ }
+    requires { ⌜ (0 < length (now plan)) × LeavesFit (getD (now plan) 0 0) fstride «from» (now x) (now y) (now tr) (now ti) (now re) (now im) ⌝ }
+    ensures { λ _. ⌜ at (now (re .exit)) (now (im .exit)) ≡ leaves (now (plan .entry)) fstride «from» (at (now (tr .entry)) (now (ti .entry))) (at (now (x .entry)) (now (y .entry))) (at (now (re .entry)) (now (im .entry))) ⌝ }
 {
     let s = fstride * plan[0];
     let mut q = 0;
@@ -107,8 +106,8 @@ fn kf_work(
     from: usize,
     inverse: bool,
 )
-    requires { ⌜ T (planned (now plan)) × T (fives (now plan)) × (2 < length (now plan)) × («from» < fstride) × (span (now plan) * fstride ≤ length (now x)) × (span (now plan) * fstride ≤ length (now y)) × (span (now plan) ≤ 1 + length (now tr)) × (span (now plan) ≤ 1 + length (now ti)) × (span (now plan) ≤ length (now re)) × (span (now plan) ≤ length (now im)) ⌝ }
-    ensures { λ _. ⌜ at (now (re .exit)) (now (im .exit)) ≡ within (span (now (plan .entry))) (packedWork (at (now (tr .entry)) (now (ti .entry))) inverse (at (now (x .entry)) (now (y .entry))) (now (plan .entry)) fstride «from») (at (now (re .entry)) (now (im .entry))) ⌝ }
+    requires { ⌜ WorkFits (now plan) fstride «from» (now x) (now y) (now tr) (now ti) (now re) (now im) ⌝ }
+    ensures { λ _. ⌜ at (now (re .exit)) (now (im .exit)) ≡ worked (now (plan .entry)) fstride «from» inverse (at (now (tr .entry)) (now (ti .entry))) (at (now (x .entry)) (now (y .entry))) (at (now (re .entry)) (now (im .entry))) ⌝ }
 {
     let p = plan[0];
     let m = plan[1];
@@ -149,8 +148,8 @@ pub fn transform(
     factors: &[usize],
     inverse: bool,
 )
-    requires { ⌜ T (among fftSizes (length (now x))) × (length (now y) ≡ length (now x)) × (length (now x) ≡ 1 + length (now tr)) × (length (now x) ≡ 1 + length (now ti)) × (now factors ≡ plan (length (now x))) × (length (now re) ≡ length (now x)) × (length (now im) ≡ length (now x)) ⌝ }
-    ensures { λ _. ⌜ (now (re .exit) ≡ reals (length (now (x .entry))) (packedSpectrum (at (now (tr .entry)) (now (ti .entry))) inverse (length (now (x .entry))) (at (now (x .entry)) (now (y .entry))))) × (now (im .exit) ≡ imaginaries (length (now (x .entry))) (packedSpectrum (at (now (tr .entry)) (now (ti .entry))) inverse (length (now (x .entry))) (at (now (x .entry)) (now (y .entry))))) ⌝ }
+    requires { ⌜ TransformFits (now x) (now y) (now re) (now im) × (length (now x) ≡ 1 + length (now tr)) × (length (now x) ≡ 1 + length (now ti)) × (now factors ≡ plan (length (now x))) ⌝ }
+    ensures { λ _. ⌜ PackedTransformed inverse (now (tr .entry)) (now (ti .entry)) (now (x .entry)) (now (y .entry)) (now (re .exit)) (now (im .exit)) ⌝ }
 {
     kf_work(re, im, x, y, tr, ti, factors, 1, 0, inverse);
 }
@@ -159,7 +158,7 @@ pub fn transform(
 // into its one caller, where it knows every place, and keeps the numbers in registers. `fives2`, called from here as well, it would leave out of the stage that calls itself.
 pub fn transform_10(re: &mut [f32], im: &mut [f32], x: &[f32], y: &[f32], tr: &[f32], ti: &[f32])
     requires { ⌜ (length (now x) ≡ 10) × (length (now y) ≡ 10) × (length (now tr) ≡ 9) × (length (now ti) ≡ 9) × (length (now re) ≡ 10) × (length (now im) ≡ 10) ⌝ }
-    ensures { λ _. ⌜ (now (re .exit) ≡ reals (length (now (x .entry))) (packedSpectrum (at (now (tr .entry)) (now (ti .entry))) false (length (now (x .entry))) (at (now (x .entry)) (now (y .entry))))) × (now (im .exit) ≡ imaginaries (length (now (x .entry))) (packedSpectrum (at (now (tr .entry)) (now (ti .entry))) false (length (now (x .entry))) (at (now (x .entry)) (now (y .entry))))) ⌝ }
+    ensures { λ _. ⌜ PackedTransformed false (now (tr .entry)) (now (ti .entry)) (now (x .entry)) (now (y .entry)) (now (re .exit)) (now (im .exit)) ⌝ }
 {
     let ur = &tr[5..];
     let ui = &ti[5..];

@@ -10,15 +10,12 @@ use lib.ListN.{length}
 use borrow.Author.Tests.{eq-eqb, ne-eqb, lt-ltb, le-ltb}
 use Rattle.laws.proofs.Table.{every}
 use Rattle.laws.proofs.Arms.{Outside}
-use Rattle.complex.specs.Complex.{at}
 use Rattle.refusals.specs.declared.Verdict.{Verdict}
 use Rattle.config.specs.Tables.{rows}
 use Rattle.config.specs.Config.{row, half, among, fftSizes}
 use Rattle.config.proofs.Among.{past-small, past-large}
 use Rattle.refusals.proofs.Verdicts.{passed, both-are}
-use Rattle.twiddles.specs.Twiddles.{twiddle}
-use Rattle.kf_work.specs.Work.{spectrum, reals, imaginaries}
-use Rattle.kissfft.specs.Fft.{firstBad, number, verdict, left, answer}
+use Rattle.kissfft.specs.Fft.{firstBad, number, verdict, Transformed, outcome, answer}
 
 -- the last arms of the matches on the sizes: past the small ones, and past the large ones but the largest
 abbrev small : List ℕ
@@ -94,15 +91,12 @@ module _ (size : ℕ) (inverse : Bool) (x y re im : List Float) (v : Verdict) (e
   unfolding verdict
   is = sym (ap (λ (w : Verdict). w .number) e)
 
-  pub refused : (v .number ≡ 0 → ⊥) → left v re im ≡ answer size inverse x y re im
+  pub refused : (v .number ≡ 0 → ⊥) → outcome v re im ≡ answer size inverse x y re im
   unfolding answer
-  refused h = rw (ne-eqb (number size x y (length re) (length im)) 0 (λ z. h (sym is ∙ z))) (ap (λ (w : Verdict). left w re im) e)
+  refused h = rw (ne-eqb (number size x y (length re) (length im)) 0 (λ z. h (sym is ∙ z))) (ap (λ (w : Verdict). outcome w re im) e)
 
-  pub accepted : v .number ≡ 0 → (re′ im′ : List Float) → length x ≡ size
-      → (re′ ≡ reals (length x) (spectrum (twiddle (length x) inverse) inverse (length x) (at x y)))
-      × (im′ ≡ imaginaries (length x) (spectrum (twiddle (length x) inverse) inverse (length x) (at x y)))
-      → left v re′ im′ ≡ answer size inverse x y re im
+  pub accepted : v .number ≡ 0 → (re′ im′ : List Float) → length x ≡ size → Transformed inverse x y re′ im′ → outcome v re′ im′ ≡ answer size inverse x y re im
   unfolding answer
   accepted z re′ im′ n h =
       rw (eq-eqb (number size x y (length re) (length im)) 0 (is ∙ z), ← n)
-      (λ j. left (rw (← n) at e j) (h .0 j) (h .1 j))
+      (λ j. outcome (rw (← n) at e j) (h .0 j) (h .1 j))

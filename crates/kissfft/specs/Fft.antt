@@ -12,7 +12,7 @@ use Rattle.config.specs.Config.{among, fftSizes}
 use Rattle.refusals.specs.declared.Verdict.{Verdict}
 use Rattle.refusals.specs.Refusals.{accepted, badSize, badInput, badOutput, badValue, verdictOf}
 use Rattle.twiddles.specs.Twiddles.{twiddle}
-use Rattle.kf_work.specs.Work.{spectrum, reals, imaginaries}
+use Rattle.kf_work.specs.Work.{spectrum, reals, imaginaries, BothParts}
 
 -- "the lowest place where either part is so"
 abbrev pub firstBad : List Float → List Float → ℕ
@@ -31,18 +31,22 @@ number size x y c d =
 unfoldable pub verdict : ℕ → List Float → List Float → ℕ → ℕ → Verdict
 verdict size x y c d = verdictOf (number size x y c d) (firstBad x y)
 
+-- re and im are the two parts of the transform of the numbers in x and y
+abbrev pub Transformed : Bool → List Float → List Float → List Float → List Float → Type 0
+Transformed inverse x y re im = let n = length x in BothParts n (spectrum (twiddle n inverse) inverse n (at x y)) re im
+
 -- a call's verdict, and its two output slices as it returns
 pub record Answer : Type 0 where
   pub judged : Verdict
   pub re : List Float
   pub im : List Float
 
-abbrev pub left : Verdict → List Float → List Float → Answer
-left v re im = record { judged = v; re = re; im = im }
+abbrev pub outcome : Verdict → List Float → List Float → Answer
+outcome v re im = record { judged = v; re = re; im = im }
 
 -- "A refused call writes nothing"; an accepted one leaves the transform in the output slices re and im.
 unfoldable pub answer : ℕ → Bool → List Float → List Float → List Float → List Float → Answer
 answer size inverse x y re im =
     let n = number size x y (length re) (length im) in
     let f = spectrum (twiddle size inverse) inverse size (at x y) in
-    left (verdict size x y (length re) (length im)) (cond (eqb n accepted) (reals size f) re) (cond (eqb n accepted) (imaginaries size f) im)
+    outcome (verdict size x y (length re) (length im)) (cond (eqb n accepted) (reals size f) re) (cond (eqb n accepted) (imaginaries size f) im)

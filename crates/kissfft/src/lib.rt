@@ -4,15 +4,12 @@
 ghost use mathlib.Core.Path.{_≡_};
 ghost use mathlib.Core.List.{_++_, map};
 ghost use Prim.Native.Nat.{_≤_, _<_};
-ghost use lib.Dec.{T};
 ghost use lib.Ieee.{neg};
 ghost use lib.ListN.{length, take, drop};
-ghost use Rattle.complex.specs.Complex.{at};
-ghost use Rattle.config.specs.Config.{among, fftSizes};
-ghost use Rattle.twiddles.specs.Twiddles.{twiddle};
-ghost use Rattle.fft_tables.specs.FftTables.{packedTable, packedDirected};
-ghost use Rattle.kf_work.specs.Work.{plan, spectrum, reals, imaginaries};
-ghost use Rattle.kissfft.specs.Fft.{firstBad, verdict, left, answer};
+ghost use Rattle.fft_tables.specs.FftTables.{packedTable, packedTableOf};
+ghost use Rattle.kf_work.specs.Work.{plan};
+ghost use Rattle.kf_work.specs.Lent.{TransformFits};
+ghost use Rattle.kissfft.specs.Fft.{firstBad, verdict, Transformed, outcome, answer};
 use fft_tables::fft_10;
 use fft_tables::fft_20;
 use fft_tables::fft_30;
@@ -96,7 +93,7 @@ fn judge(size: usize, x: &[f32], y: &[f32], c: usize, d: usize) -> Verdict
 }
 
 // The transform with the plan of its size and the table of its direction: the real parts, then the imaginary parts.
-fn turn(
+fn with_table(
     re: &mut [f32],
     im: &mut [f32],
     x: &[f32],
@@ -105,8 +102,8 @@ fn turn(
     factors: &[usize],
     inverse: bool,
 )
-    requires { ⌜ T (among fftSizes (length (now x))) × (length (now y) ≡ length (now x)) × (length (now re) ≡ length (now x)) × (length (now im) ≡ length (now x)) × (now t ≡ packedDirected inverse (length (now x))) × (now factors ≡ plan (length (now x))) ⌝ }
-    ensures { λ _. ⌜ (now (re .exit) ≡ reals (length (now (x .entry))) (spectrum (twiddle (length (now (x .entry))) inverse) inverse (length (now (x .entry))) (at (now (x .entry)) (now (y .entry))))) × (now (im .exit) ≡ imaginaries (length (now (x .entry))) (spectrum (twiddle (length (now (x .entry))) inverse) inverse (length (now (x .entry))) (at (now (x .entry)) (now (y .entry))))) ⌝ }
+    requires { ⌜ TransformFits (now x) (now y) (now re) (now im) × (now t ≡ packedTableOf inverse (length (now x))) × (now factors ≡ plan (length (now x))) ⌝ }
+    ensures { λ _. ⌜ Transformed inverse (now (x .entry)) (now (y .entry)) (now (re .exit)) (now (im .exit)) ⌝ }
 {
     let c = x.len() - 1;
     transform(re, im, x, y, &t[..c], &t[c..], factors, inverse);
@@ -121,7 +118,7 @@ fn invert(t: &mut [f32], c: usize)
 }
 
 // The transform with the forward table of its size, which the inverse inverts first.
-fn directed(
+fn with_forward_table(
     re: &mut [f32],
     im: &mut [f32],
     x: &[f32],
@@ -130,41 +127,41 @@ fn directed(
     factors: &[usize],
     inverse: bool,
 )
-    requires { ⌜ T (among fftSizes (length (now x))) × (length (now y) ≡ length (now x)) × (length (now re) ≡ length (now x)) × (length (now im) ≡ length (now x)) × (now t ≡ packedTable (length (now x))) × (now factors ≡ plan (length (now x))) ⌝ }
-    ensures { λ _. ⌜ (now (re .exit) ≡ reals (length (now (x .entry))) (spectrum (twiddle (length (now (x .entry))) inverse) inverse (length (now (x .entry))) (at (now (x .entry)) (now (y .entry))))) × (now (im .exit) ≡ imaginaries (length (now (x .entry))) (spectrum (twiddle (length (now (x .entry))) inverse) inverse (length (now (x .entry))) (at (now (x .entry)) (now (y .entry))))) × (now (t .exit) ≡ packedDirected inverse (length (now (x .entry)))) ⌝ }
+    requires { ⌜ TransformFits (now x) (now y) (now re) (now im) × (now t ≡ packedTable (length (now x))) × (now factors ≡ plan (length (now x))) ⌝ }
+    ensures { λ _. ⌜ Transformed inverse (now (x .entry)) (now (y .entry)) (now (re .exit)) (now (im .exit)) × (now (t .exit) ≡ packedTableOf inverse (length (now (x .entry)))) ⌝ }
 {
     if inverse {
         invert(t, x.len() - 1);
     }
-    turn(re, im, x, y, t, factors, inverse);
+    with_table(re, im, x, y, t, factors, inverse);
 }
 
 // The transform of more than 40 numbers, with the table and the plan of its size. It stands apart so that neither match has all the tables: that takes a check more than 2 GB.
 fn run_large(re: &mut [f32], im: &mut [f32], x: &[f32], y: &[f32], inverse: bool)
-    requires { ⌜ T (among fftSizes (length (now x))) × (length (now y) ≡ length (now x)) × (length (now re) ≡ length (now x)) × (length (now im) ≡ length (now x)) × (40 < length (now x)) ⌝ }
-    ensures { λ _. ⌜ (now (re .exit) ≡ reals (length (now (x .entry))) (spectrum (twiddle (length (now (x .entry))) inverse) inverse (length (now (x .entry))) (at (now (x .entry)) (now (y .entry))))) × (now (im .exit) ≡ imaginaries (length (now (x .entry))) (spectrum (twiddle (length (now (x .entry))) inverse) inverse (length (now (x .entry))) (at (now (x .entry)) (now (y .entry))))) ⌝ }
+    requires { ⌜ TransformFits (now x) (now y) (now re) (now im) × (40 < length (now x)) ⌝ }
+    ensures { λ _. ⌜ Transformed inverse (now (x .entry)) (now (y .entry)) (now (re .exit)) (now (im .exit)) ⌝ }
 {
     match x.len() {
-        60 => directed(re, im, x, y, &mut fft_60(), &plan_60(), inverse),
-        80 => directed(re, im, x, y, &mut fft_80(), &plan_80(), inverse),
-        90 => directed(re, im, x, y, &mut fft_90(), &plan_90(), inverse),
-        120 => directed(re, im, x, y, &mut fft_120(), &plan_120(), inverse),
-        160 => directed(re, im, x, y, &mut fft_160(), &plan_160(), inverse),
-        180 => directed(re, im, x, y, &mut fft_180(), &plan_180(), inverse),
-        _ => directed(re, im, x, y, &mut fft_240(), &plan_240(), inverse),
+        60 => with_forward_table(re, im, x, y, &mut fft_60(), &plan_60(), inverse),
+        80 => with_forward_table(re, im, x, y, &mut fft_80(), &plan_80(), inverse),
+        90 => with_forward_table(re, im, x, y, &mut fft_90(), &plan_90(), inverse),
+        120 => with_forward_table(re, im, x, y, &mut fft_120(), &plan_120(), inverse),
+        160 => with_forward_table(re, im, x, y, &mut fft_160(), &plan_160(), inverse),
+        180 => with_forward_table(re, im, x, y, &mut fft_180(), &plan_180(), inverse),
+        _ => with_forward_table(re, im, x, y, &mut fft_240(), &plan_240(), inverse),
     }
 }
 
 // The transform with the table and the plan of its size.
 fn run(re: &mut [f32], im: &mut [f32], x: &[f32], y: &[f32], inverse: bool)
-    requires { ⌜ T (among fftSizes (length (now x))) × (length (now y) ≡ length (now x)) × (length (now re) ≡ length (now x)) × (length (now im) ≡ length (now x)) ⌝ }
-    ensures { λ _. ⌜ (now (re .exit) ≡ reals (length (now (x .entry))) (spectrum (twiddle (length (now (x .entry))) inverse) inverse (length (now (x .entry))) (at (now (x .entry)) (now (y .entry))))) × (now (im .exit) ≡ imaginaries (length (now (x .entry))) (spectrum (twiddle (length (now (x .entry))) inverse) inverse (length (now (x .entry))) (at (now (x .entry)) (now (y .entry))))) ⌝ }
+    requires { ⌜ TransformFits (now x) (now y) (now re) (now im) ⌝ }
+    ensures { λ _. ⌜ Transformed inverse (now (x .entry)) (now (y .entry)) (now (re .exit)) (now (im .exit)) ⌝ }
 {
     match x.len() {
-        10 => directed(re, im, x, y, &mut fft_10(), &plan_10(), inverse),
-        20 => directed(re, im, x, y, &mut fft_20(), &plan_20(), inverse),
-        30 => directed(re, im, x, y, &mut fft_30(), &plan_30(), inverse),
-        40 => directed(re, im, x, y, &mut fft_40(), &plan_40(), inverse),
+        10 => with_forward_table(re, im, x, y, &mut fft_10(), &plan_10(), inverse),
+        20 => with_forward_table(re, im, x, y, &mut fft_20(), &plan_20(), inverse),
+        30 => with_forward_table(re, im, x, y, &mut fft_30(), &plan_30(), inverse),
+        40 => with_forward_table(re, im, x, y, &mut fft_40(), &plan_40(), inverse),
         _ => run_large(re, im, x, y, inverse),
     }
 }
@@ -178,7 +175,7 @@ pub fn fft(
     re_out: &mut [f32],
     im_out: &mut [f32],
 ) -> Verdict
-    ensures { λ r. ⌜ left r (now («re_out» .exit)) (now («im_out» .exit)) ≡ answer size inverse (now («re_in» .entry)) (now («im_in» .entry)) (now («re_out» .entry)) (now («im_out» .entry)) ⌝ }
+    ensures { λ r. ⌜ outcome r (now («re_out» .exit)) (now («im_out» .exit)) ≡ answer size inverse (now («re_in» .entry)) (now («im_in» .entry)) (now («re_out» .entry)) (now («im_out» .entry)) ⌝ }
 {
     let v = judge(size, re_in, im_in, re_out.len(), im_out.len());
     if v.number != 0 {

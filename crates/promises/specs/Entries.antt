@@ -367,7 +367,7 @@ pub record Entries (w : World) : Type 1 where
 pub record Cited (w : World) : Type 2 where
   -- kissfft: `fft` gives `answer`
   pub fft : Says w fft.ended fft.clauses
-      (λ κs a x. kissfft.left (x .0) (x .1 .1 .1 .1 .1 .0) (x .1 .1 .1 .1 .1 .1 .0) ≡ kissfft.answer (a .0) (a .1 .0) (now (a .1 .1 .0)) (now (a .1 .1 .1 .0)) (now (a .1 .1 .1 .1 .0)) (now (a .1 .1 .1 .1 .1 .0)))
+      (λ κs a x. kissfft.outcome (x .0) (x .1 .1 .1 .1 .1 .0) (x .1 .1 .1 .1 .1 .1 .0) ≡ kissfft.answer (a .0) (a .1 .0) (now (a .1 .1 .0)) (now (a .1 .1 .1 .0)) (now (a .1 .1 .1 .1 .0)) (now (a .1 .1 .1 .1 .1 .0)))
   -- dct_iv: `dct_iv` gives `answer`
   pub dct-iv : Says w dct_iv.ended dct_iv.clauses (λ κs a x. dct.outcome (x .0) (x .1 .1 .0) ≡ dct.answer (a .0) (now (a .1 .0)))
   -- analysis: `clear` gives `cleared`, `frame` gives `frames`, and so does `frame_at`, on the channel that is lent

@@ -39,20 +39,12 @@ twist-same w w′ c c′ p e f (suc q) l = ap₂ times (f (suc q) l) (e q l)
 pub seen : (p : ℕ) (c : ℕ → Complex) (b : (ℕ → Complex) → ℕ → Complex) → Sees p b → (s : List Complex) → s ≡ tab p c → b (col s) ≡ b c
 seen p c b sees s read = sees (col s) c (λ q l. ap (λ (x : List Complex). col x q) read ∙ getD-tab p c (parts nan nan) q l)
 
--- places i, i + m and twiddles i, i + m, as the first of column i
-pub first : (f : ℕ → Complex) (i m : ℕ) (x : Complex) → x ≡ f i → x ≡ f (i + m * 0)
-first f i m x e = let z : i ≡ i + m * 0 = omega arith in e ∙ ap f z
+-- column i: its first place, and place q + 1 with the twiddle that stands in part q, where k and w are theirs
+pub first : (f : ℕ → Complex) (i m : ℕ) {x : Complex} → x ≡ f i → x ≡ f (i + m * 0)
+first f i m e = let z : i ≡ i + m * 0 = omega arith in e ∙ ap f z
 
-pub second : (f u : ℕ → Complex) (i m : ℕ) (x : Complex) → x ≡ times (f (i + m)) (u i) → x ≡ times (f (i + m * 1)) (u (i + m * 0))
-second f u i m x e =
-    let z : i + m ≡ i + m * 1 = omega arith in
-    let y : i ≡ i + m * 0 = omega arith in
-    e ∙ ap₂ (λ (a b : ℕ). times (f a) (u b)) z y
-
-pub third : (f u : ℕ → Complex) (i m : ℕ) (x : Complex) → x ≡ times (f (i + m * 2)) (u (i + m)) → x ≡ times (f (i + m * 2)) (u (i + m * 1))
-third f u i m x e =
-    let z : i + m ≡ i + m * 1 = omega arith in
-    e ∙ ap (λ (b : ℕ). times (f (i + m * 2)) (u b)) z
+pub later : (f u : ℕ → Complex) (i m q : ℕ) {x : Complex} {k w : ℕ} → k ≡ i + m * suc q → w ≡ i + m * q → x ≡ times (f k) (u w) → x ≡ times (f (i + m * suc q)) (u (i + m * q))
+later f u i m q at-k at-w e = e ∙ ap₂ (λ (a b : ℕ). times (f a) (u b)) at-k at-w
 
 -- a column's four parts in the order o
 abbrev pub ordered : (ℕ → ℕ) → (ℕ → Complex) → Out4

@@ -14,7 +14,7 @@ use Rattle.complex.proofs.Places.{upd-same, upd-other, put-at}
 use Rattle.laws.specs.Lists.{tab}
 use Rattle.laws.proofs.Lists.{getD-tab}
 use Rattle.columns.specs.Column.{col}
-use Rattle.quads.specs.Rows.{writes, rows, exchanged, lane}
+use Rattle.quads.specs.Rows.{writes, rows, exchanged, turned, turnedColumns, lane}
 
 -- place i + m q: its column and its part
 pub col-of : (m i q : ℕ) → i < m → (i + m * q) % m ≡ i
@@ -79,41 +79,49 @@ pub record Through (p : ℕ) (o : ℕ → ℕ) : Type 0 where
 pub in-turn : (p : ℕ) → Through p (λ q. q)
 in-turn p = record { into = λ q l. l; back = λ q l. refl }
 
+-- each of four parts
+by-part : (P : ℕ → Type 0) → P 0 → P 1 → P 2 → P 3 → (q : ℕ) → q < 4 → P q
+by-part P p0 p1 p2 p3 zero l = p0
+by-part P p0 p1 p2 p3 (suc zero) l = p1
+by-part P p0 p1 p2 p3 (suc (suc zero)) l = p2
+by-part P p0 p1 p2 p3 (suc (suc (suc zero))) l = p3
+by-part P p0 p1 p2 p3 (suc (suc (suc (suc q)))) l = absurd (omega arith)
+
 pub exchange : (inverse : Bool) → Through 4 (exchanged inverse)
 unfolding exchanged
 exchange false = in-turn 4
-exchange true = record { into = into; back = back }
-  where
-    into : (q : ℕ) → q < 4 → exchanged true q < 4
-    into zero l = omega arith
-    into (suc zero) l = omega arith
-    into (suc (suc zero)) l = omega arith
-    into (suc (suc (suc zero))) l = omega arith
-    into (suc (suc (suc (suc q)))) l = absurd (omega arith)
-
-    back : (q : ℕ) → q < 4 → exchanged true (exchanged true q) ≡ q
-    back zero l = refl
-    back (suc zero) l = refl
-    back (suc (suc zero)) l = refl
-    back (suc (suc (suc zero))) l = refl
-    back (suc (suc (suc (suc q)))) l = absurd (omega arith)
+exchange true = record {
+  into = by-part (λ q. exchanged true q < 4) (omega arith) (omega arith) (omega arith) (omega arith);
+  back = by-part (λ q. exchanged true (exchanged true q) ≡ q) refl refl refl refl;
+}
 
 -- the numbers x are written
 put-done : (g : ℕ → Complex) (k n : ℕ) (w : ℕ → Complex) (x : List Complex) → x ≡ tab n w → writes g k (col x) n ≡ writes g k w n
 put-done g k n w x e = writes-ext g k (col x) w n (λ c l. ap (λ (y : List Complex). col y c) e ∙ getD-tab n w (parts nan nan) c l)
 
--- one more part of n columns is written: the numbers x from place k on
-pub rows-more : (n m : ℕ) (g : ℕ → Complex) (i : ℕ) (o : ℕ → ℕ) (v : ℕ → ℕ → Complex) (q k : ℕ) (a b : ℕ → Complex) (x : List Complex)
-    → k ≡ i + m * o q → a ≡ rows n m g i o v q → x ≡ tab n (λ c. v c (o q)) → b ≡ writes a k (col x) n → b ≡ rows n m g i o v (suc q)
-rows-more n m g i o v q k a b x e before read stored =
-    stored ∙ rw (before, e) (put-done (rows n m g i o v q) (i + m * o q) n (λ c. v c (o q)) x read)
+-- Columns of f from i on, read and turned by b into structs: `of` makes one of a column, and part o q of it stands in the struct at π. One more part is written,
+-- whatever the radix.
+module _ {X : Type 0} (of : (ℕ → Complex) → X) (m : ℕ) (o : ℕ → ℕ) (b : ℕ → (ℕ → Complex) → ℕ → Complex) (i : ℕ) (f : ℕ → Complex) where
+  here : (A : X) → A ≡ of (turned m b f i) → A ≡ of (turned m b f (i + 0))
+  here A e = let z : i ≡ i + 0 = omega arith in e ∙ ap (λ (j : ℕ). of (turned m b f j)) z
 
--- of one column: the number x to place k
-pub rows-one : (m : ℕ) (g : ℕ → Complex) (i : ℕ) (o : ℕ → ℕ) (v : ℕ → ℕ → Complex) (q k : ℕ) (a b : ℕ → Complex) (x : Complex)
-    → k ≡ i + m * o q → a ≡ rows 1 m g i o v q → x ≡ v 0 (o q) → b ≡ upd a k x → b ≡ rows 1 m g i o v (suc q)
-rows-one m g i o v q k a b x e before is stored =
-    let place : k ≡ i + m * o q + 0 = omega arith in
-    stored ∙ ap₂ (λ (f : ℕ → Complex) (j : ℕ). upd f j x) before place ∙ ap (λ (y : Complex). upd (rows 1 m g i o v q) (i + m * o q + 0) y) is
+  -- of four columns, from place k on
+  pub row-more : {A B C D : X} → A ≡ of (turned m b f i) → B ≡ of (turned m b f (i + 1)) → C ≡ of (turned m b f (i + 2)) → D ≡ of (turned m b f (i + 3))
+      → (q : ℕ) (π : X → Complex) (k : ℕ) (g h : ℕ → Complex) → ((c : ℕ → Complex) → π (of c) ≡ c (o q)) → k ≡ i + m * o q → g ≡ turnedColumns 4 q m o b i f
+      → h ≡ writes g k (col (π A ∷ π B ∷ π C ∷ π D ∷ [])) 4 → h ≡ turnedColumns 4 (suc q) m o b i f
+  unfolding tab
+  row-more {A} {B} {C} {D} ea eb ec ed q π k g h is place before stored =
+      let read : π A ∷ π B ∷ π C ∷ π D ∷ [] ≡ tab 4 (λ c. turned m b f (i + c) (o q)) =
+      λ z. (ap π (here A ea) ∙ is _) z ∷ (ap π eb ∙ is _) z ∷ (ap π ec ∙ is _) z ∷ (ap π ed ∙ is _) z ∷ [] in
+      stored ∙ rw (before, place) (put-done (turnedColumns 4 q m o b i f) (i + m * o q) 4 (λ c. turned m b f (i + c) (o q)) _ read)
+
+  -- of one, to place k
+  pub place-more : {A : X} → A ≡ of (turned m b f i) → (q : ℕ) (π : X → Complex) (k : ℕ) (g h : ℕ → Complex) → ((c : ℕ → Complex) → π (of c) ≡ c (o q)) → k ≡ i + m * o q
+      → g ≡ turnedColumns 1 q m o b i f → h ≡ upd g k (π A) → h ≡ turnedColumns 1 (suc q) m o b i f
+  place-more {A} ea q π k g h is place before stored =
+      let at-k : k ≡ i + m * o q + 0 = omega arith in
+      stored ∙ ap₂ (λ (g : ℕ → Complex) (j : ℕ). upd g j (π A)) before at-k
+      ∙ ap (λ (x : Complex). upd (turnedColumns 1 q m o b i f) (i + m * o q + 0) x) (ap π (here A ea) ∙ is _)
 
 -- four neighbouring stores to each list
 pub lanes : (re im : List Float) (k : ℕ) (a b c d : Complex) → k + 4 ≤ length re → k + 4 ≤ length im

@@ -4,12 +4,12 @@
 ghost use mathlib.Core.Path.{_≡_};
 ghost use mathlib.Core.Bool.{false};
 ghost use mathlib.Core.List.{[], _∷_};
-ghost use Prim.Native.Nat.{_+_, _*_, _<_, _≤_};
+ghost use Prim.Native.Nat.{_+_, _<_, _≤_};
 ghost use lib.ListN.{length};
 ghost use Rattle.complex.specs.Complex.{times, at};
 ghost use Rattle.columns.specs.Column.{col, of2, of3, of4};
 ghost use Rattle.quads.specs.Beside.{beside2, beside3, beside4};
-ghost use Rattle.quads.specs.Rows.{writes, rows, inTurn, exchanged, lane};
+ghost use Rattle.quads.specs.Rows.{writes, inTurn, exchanged, turned, turnedColumns, Room, lane};
 use columns::Out2;
 use columns::Out3;
 use columns::Out4;
@@ -51,8 +51,8 @@ fn row(re: &mut [f32], im: &mut [f32], k: usize, a: Complex, b: Complex, c: Comp
 
 // What column i is turned into: its places are read, and all but the first twiddled.
 fn turned2(re: &[f32], im: &[f32], tr: &[f32], ti: &[f32], m: usize, i: usize) -> Out2
-    requires { ⌜ (i < m) × (m * 1 ≤ length (now tr)) × (m * 1 ≤ length (now ti)) × (m * 2 ≤ length (now re)) × (m * 2 ≤ length (now im)) ⌝ }
-    ensures { λ r. ⌜ r ≡ of2 (beside2 (at (now (tr .entry)) (now (ti .entry))) m i (λ q. at (now (re .entry)) (now (im .entry)) (i + m * q))) ⌝ }
+    requires { ⌜ (i < m) × Room 2 m (now tr) (now ti) (now re) (now im) ⌝ }
+    ensures { λ r. ⌜ r ≡ of2 (turned m (beside2 (at (now (tr .entry)) (now (ti .entry))) m) (at (now (re .entry)) (now (im .entry))) i) ⌝ }
 {
     let t = twiddled(re, im, tr, ti, i + m, i);
     two(get(re, im, i), t)
@@ -60,8 +60,8 @@ fn turned2(re: &[f32], im: &[f32], tr: &[f32], ti: &[f32], m: usize, i: usize) -
 
 // Inner. Column i turned.
 pub fn turn2(re: &mut [f32], im: &mut [f32], tr: &[f32], ti: &[f32], m: usize, i: usize)
-    requires { ⌜ (i < m) × (m * 1 ≤ length (now tr)) × (m * 1 ≤ length (now ti)) × (m * 2 ≤ length (now re)) × (m * 2 ≤ length (now im)) ⌝ }
-    ensures { λ _. ⌜ at (now (re .exit)) (now (im .exit)) ≡ rows 1 m (at (now (re .entry)) (now (im .entry))) i inTurn (λ c. beside2 (at (now (tr .entry)) (now (ti .entry))) m (i + c) (λ q. at (now (re .entry)) (now (im .entry)) (i + c + m * q))) 2 ⌝ }
+    requires { ⌜ (i < m) × Room 2 m (now tr) (now ti) (now re) (now im) ⌝ }
+    ensures { λ _. ⌜ at (now (re .exit)) (now (im .exit)) ≡ turnedColumns 1 2 m inTurn (beside2 (at (now (tr .entry)) (now (ti .entry))) m) i (at (now (re .entry)) (now (im .entry))) ⌝ }
 {
     let v = turned2(re, im, tr, ti, m, i);
     put(re, im, i, v.a);
@@ -70,8 +70,8 @@ pub fn turn2(re: &mut [f32], im: &mut [f32], tr: &[f32], ti: &[f32], m: usize, i
 
 // Inner. Columns j to j + 3 turned.
 pub fn quad2(re: &mut [f32], im: &mut [f32], tr: &[f32], ti: &[f32], m: usize, j: usize)
-    requires { ⌜ (j + 4 ≤ m) × (m * 1 ≤ length (now tr)) × (m * 1 ≤ length (now ti)) × (m * 2 ≤ length (now re)) × (m * 2 ≤ length (now im)) ⌝ }
-    ensures { λ _. ⌜ at (now (re .exit)) (now (im .exit)) ≡ rows 4 m (at (now (re .entry)) (now (im .entry))) j inTurn (λ c. beside2 (at (now (tr .entry)) (now (ti .entry))) m (j + c) (λ q. at (now (re .entry)) (now (im .entry)) (j + c + m * q))) 2 ⌝ }
+    requires { ⌜ (j + 4 ≤ m) × Room 2 m (now tr) (now ti) (now re) (now im) ⌝ }
+    ensures { λ _. ⌜ at (now (re .exit)) (now (im .exit)) ≡ turnedColumns 4 2 m inTurn (beside2 (at (now (tr .entry)) (now (ti .entry))) m) j (at (now (re .entry)) (now (im .entry))) ⌝ }
 {
     let a = turned2(re, im, tr, ti, m, j);
     let b = turned2(re, im, tr, ti, m, j + 1);
@@ -83,8 +83,8 @@ pub fn quad2(re: &mut [f32], im: &mut [f32], tr: &[f32], ti: &[f32], m: usize, j
 
 // What column i is turned into: its places are read, and all but the first twiddled.
 fn turned3(re: &[f32], im: &[f32], tr: &[f32], ti: &[f32], m: usize, i: usize, y: Complex) -> Out3
-    requires { ⌜ (i < m) × (m * 2 ≤ length (now tr)) × (m * 2 ≤ length (now ti)) × (m * 3 ≤ length (now re)) × (m * 3 ≤ length (now im)) ⌝ }
-    ensures { λ r. ⌜ r ≡ of3 (beside3 y (at (now (tr .entry)) (now (ti .entry))) m i (λ q. at (now (re .entry)) (now (im .entry)) (i + m * q))) ⌝ }
+    requires { ⌜ (i < m) × Room 3 m (now tr) (now ti) (now re) (now im) ⌝ }
+    ensures { λ r. ⌜ r ≡ of3 (turned m (beside3 y (at (now (tr .entry)) (now (ti .entry))) m) (at (now (re .entry)) (now (im .entry))) i) ⌝ }
 {
     let s1 = twiddled(re, im, tr, ti, i + m, i);
     let s2 = twiddled(re, im, tr, ti, i + m * 2, i + m);
@@ -93,8 +93,8 @@ fn turned3(re: &[f32], im: &[f32], tr: &[f32], ti: &[f32], m: usize, i: usize, y
 
 // Inner. Column i turned.
 pub fn turn3(re: &mut [f32], im: &mut [f32], tr: &[f32], ti: &[f32], m: usize, i: usize, y: Complex)
-    requires { ⌜ (i < m) × (m * 2 ≤ length (now tr)) × (m * 2 ≤ length (now ti)) × (m * 3 ≤ length (now re)) × (m * 3 ≤ length (now im)) ⌝ }
-    ensures { λ _. ⌜ at (now (re .exit)) (now (im .exit)) ≡ rows 1 m (at (now (re .entry)) (now (im .entry))) i inTurn (λ c. beside3 y (at (now (tr .entry)) (now (ti .entry))) m (i + c) (λ q. at (now (re .entry)) (now (im .entry)) (i + c + m * q))) 3 ⌝ }
+    requires { ⌜ (i < m) × Room 3 m (now tr) (now ti) (now re) (now im) ⌝ }
+    ensures { λ _. ⌜ at (now (re .exit)) (now (im .exit)) ≡ turnedColumns 1 3 m inTurn (beside3 y (at (now (tr .entry)) (now (ti .entry))) m) i (at (now (re .entry)) (now (im .entry))) ⌝ }
 {
     let v = turned3(re, im, tr, ti, m, i, y);
     put(re, im, i, v.a);
@@ -104,8 +104,8 @@ pub fn turn3(re: &mut [f32], im: &mut [f32], tr: &[f32], ti: &[f32], m: usize, i
 
 // Inner. Columns j to j + 3 turned.
 pub fn quad3(re: &mut [f32], im: &mut [f32], tr: &[f32], ti: &[f32], m: usize, j: usize, y: Complex)
-    requires { ⌜ (j + 4 ≤ m) × (m * 2 ≤ length (now tr)) × (m * 2 ≤ length (now ti)) × (m * 3 ≤ length (now re)) × (m * 3 ≤ length (now im)) ⌝ }
-    ensures { λ _. ⌜ at (now (re .exit)) (now (im .exit)) ≡ rows 4 m (at (now (re .entry)) (now (im .entry))) j inTurn (λ c. beside3 y (at (now (tr .entry)) (now (ti .entry))) m (j + c) (λ q. at (now (re .entry)) (now (im .entry)) (j + c + m * q))) 3 ⌝ }
+    requires { ⌜ (j + 4 ≤ m) × Room 3 m (now tr) (now ti) (now re) (now im) ⌝ }
+    ensures { λ _. ⌜ at (now (re .exit)) (now (im .exit)) ≡ turnedColumns 4 3 m inTurn (beside3 y (at (now (tr .entry)) (now (ti .entry))) m) j (at (now (re .entry)) (now (im .entry))) ⌝ }
 {
     let a = turned3(re, im, tr, ti, m, j, y);
     let b = turned3(re, im, tr, ti, m, j + 1, y);
@@ -118,8 +118,8 @@ pub fn quad3(re: &mut [f32], im: &mut [f32], tr: &[f32], ti: &[f32], m: usize, j
 
 // What column i is turned into, forward: its places are read, and all but the first twiddled.
 fn turned4(re: &[f32], im: &[f32], tr: &[f32], ti: &[f32], m: usize, i: usize) -> Out4
-    requires { ⌜ (i < m) × (m * 3 ≤ length (now tr)) × (m * 3 ≤ length (now ti)) × (m * 4 ≤ length (now re)) × (m * 4 ≤ length (now im)) ⌝ }
-    ensures { λ r. ⌜ r ≡ of4 (beside4 false (at (now (tr .entry)) (now (ti .entry))) m i (λ q. at (now (re .entry)) (now (im .entry)) (i + m * q))) ⌝ }
+    requires { ⌜ (i < m) × Room 4 m (now tr) (now ti) (now re) (now im) ⌝ }
+    ensures { λ r. ⌜ r ≡ of4 (turned m (beside4 false (at (now (tr .entry)) (now (ti .entry))) m) (at (now (re .entry)) (now (im .entry))) i) ⌝ }
 {
     let s0 = twiddled(re, im, tr, ti, i + m, i);
     let s1 = twiddled(re, im, tr, ti, i + m * 2, i + m);
@@ -144,8 +144,8 @@ pub fn turn4(
     i: usize,
     inverse: bool,
 )
-    requires { ⌜ (i < m) × (m * 3 ≤ length (now tr)) × (m * 3 ≤ length (now ti)) × (m * 4 ≤ length (now re)) × (m * 4 ≤ length (now im)) ⌝ }
-    ensures { λ _. ⌜ at (now (re .exit)) (now (im .exit)) ≡ rows 1 m (at (now (re .entry)) (now (im .entry))) i (exchanged inverse) (λ c. beside4 inverse (at (now (tr .entry)) (now (ti .entry))) m (i + c) (λ q. at (now (re .entry)) (now (im .entry)) (i + c + m * q))) 4 ⌝ }
+    requires { ⌜ (i < m) × Room 4 m (now tr) (now ti) (now re) (now im) ⌝ }
+    ensures { λ _. ⌜ at (now (re .exit)) (now (im .exit)) ≡ turnedColumns 1 4 m (exchanged inverse) (beside4 inverse (at (now (tr .entry)) (now (ti .entry))) m) i (at (now (re .entry)) (now (im .entry))) ⌝ }
 {
     let v = turned4(re, im, tr, ti, m, i);
     let second = second(inverse);
@@ -166,8 +166,8 @@ pub fn quad4(
     j: usize,
     inverse: bool,
 )
-    requires { ⌜ (j + 4 ≤ m) × (m * 3 ≤ length (now tr)) × (m * 3 ≤ length (now ti)) × (m * 4 ≤ length (now re)) × (m * 4 ≤ length (now im)) ⌝ }
-    ensures { λ _. ⌜ at (now (re .exit)) (now (im .exit)) ≡ rows 4 m (at (now (re .entry)) (now (im .entry))) j (exchanged inverse) (λ c. beside4 inverse (at (now (tr .entry)) (now (ti .entry))) m (j + c) (λ q. at (now (re .entry)) (now (im .entry)) (j + c + m * q))) 4 ⌝ }
+    requires { ⌜ (j + 4 ≤ m) × Room 4 m (now tr) (now ti) (now re) (now im) ⌝ }
+    ensures { λ _. ⌜ at (now (re .exit)) (now (im .exit)) ≡ turnedColumns 4 4 m (exchanged inverse) (beside4 inverse (at (now (tr .entry)) (now (ti .entry))) m) j (at (now (re .entry)) (now (im .entry))) ⌝ }
 {
     let a = turned4(re, im, tr, ti, m, j);
     let b = turned4(re, im, tr, ti, m, j + 1);

@@ -13,24 +13,6 @@ use Rattle.quads.proofs.Rows.{writes-more}
 use Rattle.butterflies.proofs.kf_bfly5.Statement.{statement}
 use Rattle.butterflies.proofs.kf_bfly5.Tie as tie
 
-shared-slice-read-turned5 : tie.Need-shared-slice-read-turned5
-shared-slice-read-turned5 c = search needs
-
-get-requires : tie.Need-get-requires
-get-requires c κs = search needs
-
-get-requires-2 : tie.Need-get-requires-2
-get-requires-2 c κs = search needs
-
-turned5-requires : tie.Need-turned5-requires
-turned5-requires c κs = search needs
-
-put-requires : tie.Need-put-requires
-put-requires c κs = search needs
-
-put-requires-2 : tie.Need-put-requires-2
-put-requires-2 c κs = search needs
-
 put-requires-3 : tie.Need-put-requires-3
 put-requires-3 c κs = omega (arith, c .before .before .before .before .before .before .before .before .before .before .before .before .before .before .before .before .before .before .before .before .before .before .before .before .pre, c .before .before .before .before .before .before .before .before .before .before .before .before .before .put .kept, c .before .before .before .before .before .before .put2 .kept)
 
@@ -39,12 +21,6 @@ put-requires-4 c κs = omega (arith, c .before .before .before .before .before .
 
 put-requires-5 : tie.Need-put-requires-5
 put-requires-5 c κs = omega (arith, c .before .before .before .before .before .before .before .before .before .before .before .before .before .before .before .before .before .before .before .before .before .before .before .before .before .before .before .before .before .before .before .before .before .before .before .before .before .before .pre, c .before .before .before .before .before .before .before .before .before .before .before .before .before .before .before .before .before .before .before .before .before .before .before .before .before .before .before .put .kept, c .before .before .before .before .before .before .before .before .before .before .before .before .before .before .before .before .before .before .before .before .put2 .kept, c .before .before .before .before .before .before .before .before .before .before .before .before .before .put3 .kept, c .before .before .before .before .before .before .put4 .kept)
-
-same-length : tie.Need-same-length
-same-length c = search needs
-
-same-length-2 : tie.Need-same-length-2
-same-length-2 c = search needs
 
 returns : tie.Need-returns
 unfolding beside5
@@ -56,7 +32,11 @@ returns c =
     let more : (q j : ℕ) (g h : ℕ → Complex) (x : Complex) → j ≡ 0 + q → g ≡ writes f 0 v q → x ≡ v q → h ≡ upd g j x → h ≡ writes f 0 v (suc q) = λ q j g h x e before is stored. writes-more f 0 v q j g h e before (stored ∙ ap (λ (y : Complex). upd g j y) is) in
     more 4 _ _ _ _ refl (more 3 _ _ _ _ refl (more 2 _ _ _ _ refl (more 1 _ _ _ _ refl (more 0 _ _ _ _ refl refl (λ z. w z .a) (c .before .before .before .before .before .before .before .before .before .before .before .before .before .before .before .before .before .before .before .before .before .before .before .before .before .before .before .before .before .before .before .before .put .ensures)) (λ z. w z .b) (c .before .before .before .before .before .before .before .before .before .before .before .before .before .before .before .before .before .before .before .before .before .before .before .before .before .put2 .ensures)) (λ z. w z .c) (c .before .before .before .before .before .before .before .before .before .before .before .before .before .before .before .before .before .before .put3 .ensures)) (λ z. w z .d) (c .before .before .before .before .before .before .before .before .before .before .before .put4 .ensures)) (λ z. w z .e) (c .before .before .before .before .put5 .ensures)
 
+-- the needs without a name, for any answer: a wrong one hides none of them
+safe : tie.Need-returns → {M : Type 1} → statement M
+safe returns =
+    tie.close (tie.spec (λ c. search needs) (λ c κs. search needs) (λ c κs. search needs) (λ c κs. search needs) (λ c κs. search needs) (λ c κs. search needs) put-requires-3 put-requires-4
+    put-requires-5 (λ c. search needs) (λ c. search needs) returns)
+
 pub kf-bfly5-spec : {M : Type 1} → statement M
-kf-bfly5-spec =
-    tie.close (tie.spec shared-slice-read-turned5 get-requires get-requires-2 turned5-requires put-requires put-requires-2 put-requires-3 put-requires-4 put-requires-5 same-length same-length-2
-    returns)
+kf-bfly5-spec = safe returns

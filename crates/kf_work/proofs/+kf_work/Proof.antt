@@ -7,6 +7,8 @@ use native.Mathlib.Nat.{mul-comm}
 use native.Mathlib.Omega.{arith}
 use lib.ListN.{length, getD}
 use denote.Ref.{now}
+use mir.Syntax.{w64}
+use mir.Val.{Fits}
 use borrow.Author.Needs.{needs}
 use borrow.Fn.Kinds.{In}
 use borrow.Fn.PlainCycle.{Measures, is, falls, and}
@@ -62,17 +64,17 @@ module _ (t : ℕ) (st : kf-work-lts.Start (kf-work-claims t) (kf-work-at t) kf-
   inner = getD ps 1 0
 
   first : Split ps radix inner (rest-of ps)
-  first = plan-cons ps (st .pre .1 .0) (omega (arith, st .pre .1 .2))
+  first = plan-cons ps (st .pre .1 .radixes) (omega (arith, st .pre .1 .stages))
 
   lower : Taken ps radix (rest-of ps)
-  lower = taken ps (st .pre .1 .0) (st .pre .1 .1) (st .pre .1 .2)
+  lower = taken ps (st .pre .1 .radixes) (st .pre .1 .innermost-five) (st .pre .1 .stages)
 
   -- the stage's twiddles are in both tables, and as many as the rest of the plan reads are left
   here : (2 ≤ radix) × (radix ≤ 4) × (0 < inner) × (inner * (radix - 1) + inner ≡ span ps) × (inner * (radix - 1) ≤ length (st .args .tr .now)) × (inner * (radix - 1) ≤ length (st .args .ti .now)) × (2 < length ps)
   here =
       let n = table-nums _ _ _ _ first in
       let h = inner-positive _ _ _ _ first in
-      (first .at-least, lower .low, h, n, omega (arith, n, h, st .pre .1 .6), omega (arith, n, h, st .pre .1 .7), st .pre .1 .2)
+      (first .at-least, lower .low, h, n, omega (arith, n, h, st .pre .1 .tr-fits), omega (arith, n, h, st .pre .1 .ti-fits), st .pre .1 .stages)
 
   -- the tables that are lent on
   rest-re : length (from-on (inner * (radix - 1)) (st .args .tr .now)) ≡ length (st .args .tr .now) - inner * (radix - 1)
@@ -85,7 +87,17 @@ module _ (t : ℕ) (st : kf-work-lts.Start (kf-work-claims t) (kf-work-at t) kf-
   lent-on = from-on-at (inner * (radix - 1)) (st .args .tr .now) (st .args .ti .now)
 
   sub : (q : ℕ) → q < radix → (q * inner + inner ≤ span ps) × (span (rest-of ps) * (st .args .fstride * radix) ≡ span ps * st .args .fstride) × (st .args .fstride * radix ≤ span ps * st .args .fstride) × (st .args .from + q * st .args .fstride < st .args .fstride * radix)
-  sub q l = sub-nums _ _ _ _ first (st .args .fstride) (st .args .from) q (st .pre .1 .3) l
+  sub q l = sub-nums _ _ _ _ first (st .args .fstride) (st .args .from) q (st .pre .1 .starts) l
+
+-- in the loop: the q-th sub-transform's part is in both slices, and its numbers in the input
+lent : (t : ℕ) (c : kf-work-lts.In-loop (kf-work-claims t) (kf-work-at t) kf-work.Post kf-work-Inv-loop kf-work-μ-loop) → let st = c .before .before .before .before .before .before .before .before .before .before .before .before .before .before .before in
+    let lp = c .before .loop in
+    let part = lp .q * inner t st in (part + inner t st ≤ length (lp .re)) × (part + inner t st ≤ length (lp .im)) × Fits w64 part × Fits w64 (st .args .fstride * radix t st) × (st .args .from + lp .q * st .args .fstride < st .args .fstride * radix t st)
+lent t c =
+    let st = c .before .before .before .before .before .before .before .before .before .before .before .before .before .before .before in
+    let lp = c .before .loop in
+    let n = sub t st (lp .q) (c .loop-test .taken) in
+    (omega (arith, n, lp .inv .0, st .pre .1), omega (arith, n, lp .inv .1, st .pre .1), omega (arith, n, lp .inv .0, st .pre .1, st .good .0), omega (arith, n, st .pre .1, st .good .1 .1 .0), n .3)
 
 kf-work-kf-leaves-requires : (t : ℕ) → kf-work-lts.Need-kf-leaves-requires (kf-work-claims t) (kf-work-at t) kf-work.Post kf-work-Inv-loop kf-work-μ-loop
 kf-work-kf-leaves-requires t c κs =
@@ -97,13 +109,15 @@ kf-work-kf-leaves-requires t c κs =
     let e : 5 * (st .args .fstride * radix t st) ≡ span (ps t st) * st .args .fstride = ap (λ (k : ℕ). k * (st .args .fstride * radix t st)) (sym five ∙ inner-is) ∙ n .1 in
     let all : radix t st * 5 ≡ span (ps t st) = ap (λ (k : ℕ). radix t st * k) (sym five) ∙ whole _ _ _ _ (first t st) in (
       omega (arith, h),
-      st .pre .1 .3,
-      omega (arith, e, st .pre .1 .4),
-      omega (arith, e, st .pre .1 .5),
-      omega (arith, rest-re t st, h, five, st .pre .1 .6),
-      omega (arith, rest-im t st, h, five, st .pre .1 .7),
-      omega (arith, all, st .pre .1 .8),
-      omega (arith, all, st .pre .1 .9),
+      record {
+        starts = st .pre .1 .starts;
+        x-fits = omega (arith, e, st .pre .1 .x-fits);
+        y-fits = omega (arith, e, st .pre .1 .y-fits);
+        tr-fits = omega (arith, rest-re t st, h, five, st .pre .1 .tr-fits);
+        ti-fits = omega (arith, rest-im t st, h, five, st .pre .1 .ti-fits);
+        re-fits = omega (arith, all, st .pre .1 .re-fits);
+        im-fits = omega (arith, all, st .pre .1 .im-fits);
+      },
     )
 
 kf-work-kf-fives-requires : (t : ℕ) → kf-work-lts.Need-kf-fives-requires (kf-work-claims t) (kf-work-at t) kf-work.Post kf-work-Inv-loop kf-work-μ-loop
@@ -111,7 +125,7 @@ kf-work-kf-fives-requires t c κs =
     let st = c .before .before .before .before .before .before .before .before .before .before .before .before .before .before .before .before .before .before .before .before .before in
     let h = here t st in
     let block : 5 * radix t st ≡ span (ps t st) = mul-comm 5 (radix t st) ∙ ap (λ (k : ℕ). radix t st * k) (sym (c .before .before .before .before .before .before .before .before .before .if1 .taken)) ∙ whole _ _ _ _ (first t st) in
-    (h .0, h .1, omega (arith, block, st .pre .1 .6), omega (arith, block, st .pre .1 .7), omega (arith, block, st .pre .1 .8, c .before .before .before .before .before .before .kf-leaves .kept .0), omega (arith, block, st .pre .1 .9, c .before .before .before .before .before .before .kf-leaves .kept .1 .0))
+    (h .0, h .1, omega (arith, block, st .pre .1 .tr-fits), omega (arith, block, st .pre .1 .ti-fits), omega (arith, block, st .pre .1 .re-fits, c .before .before .before .before .before .before .kf-leaves .kept .0), omega (arith, block, st .pre .1 .im-fits, c .before .before .before .before .before .before .kf-leaves .kept .1 .0))
 
 kf-work-returns : (t : ℕ) → kf-work-lts.Need-returns (kf-work-claims t) (kf-work-at t) kf-work.Post kf-work-Inv-loop kf-work-μ-loop
 kf-work-returns t c =
@@ -129,18 +143,18 @@ kf-work-kf-work-requires t c κs =
     let inner-is = first t st .inner in
     let more = lower t st .rest-below .others (λ e. c .before .before .before .before .before .if1 .left (inner-is ∙ e)) in (
       omega (arith, more .1, inner-is, st .pre .0),
-      (
-        first t st .left,
-        lower t st .rest-fives,
-        more .0,
-        n .3,
-        omega (arith, n .1, st .pre .1 .4),
-        omega (arith, n .1, st .pre .1 .5),
-        omega (arith, rest-re t st, h, inner-is, st .pre .1 .6),
-        omega (arith, rest-im t st, h, inner-is, st .pre .1 .7),
-        omega (arith, n .0, inner-is, st .pre .1 .8, lp .inv .0, c .before .kf-work-arg .given .2),
-        omega (arith, n .0, inner-is, st .pre .1 .9, lp .inv .1, c .kf-work-arg2 .given .2),
-      ),
+      record {
+        radixes = first t st .left;
+        innermost-five = lower t st .rest-fives;
+        stages = more .0;
+        starts = n .3;
+        x-fits = omega (arith, n .1, st .pre .1 .x-fits);
+        y-fits = omega (arith, n .1, st .pre .1 .y-fits);
+        tr-fits = omega (arith, rest-re t st, h, inner-is, st .pre .1 .tr-fits);
+        ti-fits = omega (arith, rest-im t st, h, inner-is, st .pre .1 .ti-fits);
+        re-fits = omega (arith, n .0, inner-is, st .pre .1 .re-fits, lp .inv .0, c .before .kf-work-arg .given .2);
+        im-fits = omega (arith, n .0, inner-is, st .pre .1 .im-fits, lp .inv .1, c .kf-work-arg2 .given .2);
+      },
     )
 
 kf-work-loop-again : (t : ℕ) → kf-work-lts.Need-loop-again (kf-work-claims t) (kf-work-at t) kf-work.Post kf-work-Inv-loop kf-work-μ-loop
@@ -153,7 +167,7 @@ kf-work-loop-again t c =
       c .before .im3 .given .1 ∙ lp .inv .1,
       omega (arith, c .before .before .before .before .before .before .before .loop-test .taken),
       call-done (packedWork (after (at (a .tr .now) (a .ti .now)) (radix t st) (inner t st)) (a .inverse) (at (a .x .now) (a .y .now)) (rest-of (ps t st)) (a .fstride * radix t st)) (inner t st) (a .fstride) (a .from) (lp .q) (here t st .2) _
-          (lp .re) (lp .im) (c .before .before .before .before .kf-work .last .0) (c .before .before .before .before .kf-work .last .1 .0) (omega (arith, n .0, st .pre .1 .8, lp .inv .0)) (omega (arith, n .0, st .pre .1 .9, lp .inv .1)) (lp .inv .3)
+          (lp .re) (lp .im) (c .before .before .before .before .kf-work .last .0) (c .before .before .before .before .kf-work .last .1 .0) (omega (arith, n .0, st .pre .1 .re-fits, lp .inv .0)) (omega (arith, n .0, st .pre .1 .im-fits, lp .inv .1)) (lp .inv .3)
           (sub-is _ _ (at (a .x .now) (a .y .now)) (a .inverse) (rest-of (ps t st)) _ _ _ _ (sym (first t st .inner)) (lent-on t st) _ _ (c .before .before .before .before .kf-work .ensures)),
     )
 
@@ -163,7 +177,7 @@ kf-work-kf-bfly-requires t c κs =
     let lp = c .before .before .before .loop in
     let h = here t st in
     let block : inner t st * radix t st ≡ span (ps t st) = mul-comm (inner t st) (radix t st) ∙ whole _ _ _ _ (first t st) in
-    (h .0, h .1, h .2, omega (arith, block, st .pre .1 .6), omega (arith, block, st .pre .1 .7), omega (arith, block, st .pre .1 .8, lp .inv .0), omega (arith, block, st .pre .1 .9, lp .inv .1))
+    (h .0, h .1, h .2, omega (arith, block, st .pre .1 .tr-fits), omega (arith, block, st .pre .1 .ti-fits), omega (arith, block, st .pre .1 .re-fits, lp .inv .0), omega (arith, block, st .pre .1 .im-fits, lp .inv .1))
 
 kf-work-returns-2 : (t : ℕ) → kf-work-lts.Need-returns-2 (kf-work-claims t) (kf-work-at t) kf-work.Post kf-work-Inv-loop kf-work-μ-loop
 kf-work-returns-2 t c =
@@ -178,53 +192,29 @@ safe : ((t : ℕ) → kf-work-lts.Need-returns (kf-work-claims t) (kf-work-at t)
     → ((t : ℕ) → kf-work-lts.Need-loop-again (kf-work-claims t) (kf-work-at t) kf-work.Post kf-work-Inv-loop kf-work-μ-loop)
     → ((t : ℕ) → kf-work-lts.Need-returns-2 (kf-work-claims t) (kf-work-at t) kf-work.Post kf-work-Inv-loop kf-work-μ-loop)
     → {M : Type 1} → statement M
-safe returns loop-again returns-2 = close μ-kf-work λ t. kf-work-lts.spec (kf-work-claims t)
-    (kf-work-at t)
-    kf-work.Post
-    kf-work-Inv-loop
-    kf-work-μ-loop
+safe returns loop-again returns-2 =
+    close μ-kf-work λ t. kf-work-lts.spec (kf-work-claims t) (kf-work-at t) kf-work.Post kf-work-Inv-loop kf-work-μ-loop
     (λ c. omega (arith, here t (c .before .before .before .before .before .before .before .before)))
     (λ c. omega (arith, here t (c .before .before .before .before .before .before .before .before .before)))
     (λ c. omega (arith, here t (c .before .before .before .before .before .before .before .before .before)))
     (λ c. omega (arith, here t (c .before .before .before .before .before .before .before .before .before), c .before .before .before .before .before .before .before .before .before .good .1 .1 .1 .1 .0))
     (λ c. omega (arith, here t (c .before .before .before .before .before .before .before .before .before), c .before .before .before .before .before .before .before .before .before .good .1 .1 .1 .1 .0))
     (λ c. omega (arith, here t (c .before .before .before .before .before .before .before .before .before), c .before .before .before .before .before .before .before .before .before .good .1 .1 .1 .1 .0))
-    (λ c. omega (arith, here t (c .before .before .before .before .before .before .before .before .before)))
-    (λ c. search needs)
+    (λ c. omega (arith, here t (c .before .before .before .before .before .before .before .before .before))) (λ c. search needs)
     (λ c. omega (arith, here t (c .before .before .before .before .before .before .before .before .before .before), c .before .before .before .before .before .before .before .before .before .before .good .1 .1 .1 .1 .0))
     (λ c. omega (arith, here t (c .before .before .before .before .before .before .before .before .before .before), c .before .before .before .before .before .before .before .before .before .before .good .1 .1 .1 .1 .0))
-    (λ c. omega (arith, here t (c .before .before .before .before .before .before .before .before .before .before)))
-    (λ c. search needs)
-    (kf-work-kf-leaves-requires t)
-    (kf-work-kf-fives-requires t)
+    (λ c. omega (arith, here t (c .before .before .before .before .before .before .before .before .before .before))) (λ c. search needs) (kf-work-kf-leaves-requires t) (kf-work-kf-fives-requires t)
     (λ c. c .before .before .before .before .kf-fives .kept .0 ∙ c .before .before .before .before .before .before .before .before .before .before .before .kf-leaves .kept .0)
-    (λ c. c .before .before .before .before .kf-fives .kept .1 .0 ∙ c .before .before .before .before .before .before .before .before .before .before .before .kf-leaves .kept .1 .0)
-    (returns t)
+    (λ c. c .before .before .before .before .kf-fives .kept .1 .0 ∙ c .before .before .before .before .before .before .before .before .before .before .before .kf-leaves .kept .1 .0) (returns t)
     (λ c. omega (arith, here t (c .before .before .before .before .before .before .before .before .before .before .before .before)))
-    (λ c. omega (arith, here t (c .before .before .before .before .before .before .before .before .before .before .before .before)))
-    (λ c. search needs)
-    (λ c. (refl, refl, omega arith, within-zero _ _ _))
-    (λ c. omega (arith, sub t (c .before .before .before .before .before .before .before .before .before .before .before .before .before .before .before) _ (c .loop-test .taken), c .before .loop .inv .0, c .before .loop .inv .1, c .before .before .before .before .before .before .before .before .before .before .before .before .before .before .before .pre .1, c .before .before .before .before .before .before .before .before .before .before .before .before .before .before .before .good .1 .1 .0))
-    (λ c. omega (arith, sub t (c .before .before .before .before .before .before .before .before .before .before .before .before .before .before .before) _ (c .loop-test .taken), c .before .loop .inv .0, c .before .loop .inv .1, c .before .before .before .before .before .before .before .before .before .before .before .before .before .before .before .pre .1, c .before .before .before .before .before .before .before .before .before .before .before .before .before .before .before .good .1 .1 .0))
-    (λ c. omega (arith, sub t (c .before .before .before .before .before .before .before .before .before .before .before .before .before .before .before) _ (c .loop-test .taken), c .before .loop .inv .0, c .before .loop .inv .1, c .before .before .before .before .before .before .before .before .before .before .before .before .before .before .before .pre .1, c .before .before .before .before .before .before .before .before .before .before .before .before .before .before .before .good .1 .1 .0))
-    (λ c. omega (arith, sub t (c .before .before .before .before .before .before .before .before .before .before .before .before .before .before .before) _ (c .loop-test .taken), c .before .loop .inv .0, c .before .loop .inv .1, c .before .before .before .before .before .before .before .before .before .before .before .before .before .before .before .pre .1, c .before .before .before .before .before .before .before .before .before .before .before .before .before .before .before .good .1 .1 .0))
-    (λ c. search needs)
-    (λ c. omega (arith, sub t (c .before .before .before .before .before .before .before .before .before .before .before .before .before .before .before .before) _ (c .before .loop-test .taken), c .before .before .loop .inv .0, c .before .before .loop .inv .1, c .before .before .before .before .before .before .before .before .before .before .before .before .before .before .before .before .pre .1, c .before .before .before .before .before .before .before .before .before .before .before .before .before .before .before .before .good .1 .1 .0))
-    (λ c. omega (arith, sub t (c .before .before .before .before .before .before .before .before .before .before .before .before .before .before .before .before) _ (c .before .loop-test .taken), c .before .before .loop .inv .0, c .before .before .loop .inv .1, c .before .before .before .before .before .before .before .before .before .before .before .before .before .before .before .before .pre .1, c .before .before .before .before .before .before .before .before .before .before .before .before .before .before .before .before .good .1 .1 .0))
-    (λ c. omega (arith, sub t (c .before .before .before .before .before .before .before .before .before .before .before .before .before .before .before .before) _ (c .before .loop-test .taken), c .before .before .loop .inv .0, c .before .before .loop .inv .1, c .before .before .before .before .before .before .before .before .before .before .before .before .before .before .before .before .pre .1, c .before .before .before .before .before .before .before .before .before .before .before .before .before .before .before .before .good .1 .1 .0))
-    (λ c. omega (arith, sub t (c .before .before .before .before .before .before .before .before .before .before .before .before .before .before .before .before) _ (c .before .loop-test .taken), c .before .before .loop .inv .0, c .before .before .loop .inv .1, c .before .before .before .before .before .before .before .before .before .before .before .before .before .before .before .before .pre .1, c .before .before .before .before .before .before .before .before .before .before .before .before .before .before .before .before .good .1 .1 .0))
-    (λ c. search needs)
-    (λ c. omega (arith, sub t (c .before .before .before .before .before .before .before .before .before .before .before .before .before .before .before .before .before) _ (c .before .before .loop-test .taken), c .before .before .before .loop .inv .0, c .before .before .before .loop .inv .1, c .before .before .before .before .before .before .before .before .before .before .before .before .before .before .before .before .before .pre .1, c .before .before .before .before .before .before .before .before .before .before .before .before .before .before .before .before .before .good .1 .1 .0))
-    (λ c. omega (arith, sub t (c .before .before .before .before .before .before .before .before .before .before .before .before .before .before .before .before .before) _ (c .before .before .loop-test .taken), c .before .before .before .loop .inv .0, c .before .before .before .loop .inv .1, c .before .before .before .before .before .before .before .before .before .before .before .before .before .before .before .before .before .pre .1, c .before .before .before .before .before .before .before .before .before .before .before .before .before .before .before .before .before .good .1 .1 .0))
-    (λ c. omega (arith, sub t (c .before .before .before .before .before .before .before .before .before .before .before .before .before .before .before .before .before) _ (c .before .before .loop-test .taken), c .before .before .before .loop .inv .0, c .before .before .before .loop .inv .1, c .before .before .before .before .before .before .before .before .before .before .before .before .before .before .before .before .before .pre .1, c .before .before .before .before .before .before .before .before .before .before .before .before .before .before .before .before .before .good .1 .1 .0))
-    (kf-work-kf-work-requires t)
+    (λ c. omega (arith, here t (c .before .before .before .before .before .before .before .before .before .before .before .before))) (λ c. search needs)
+    (λ c. (refl, refl, omega arith, within-zero _ _ _)) (λ c. omega (arith, lent t c)) (λ c. omega (arith, lent t c)) (λ c. omega (arith, lent t c)) (λ c. omega (arith, lent t c)) (λ c. search needs)
+    (λ c. omega (arith, lent t (c .before))) (λ c. omega (arith, lent t (c .before))) (λ c. omega (arith, lent t (c .before))) (λ c. omega (arith, lent t (c .before))) (λ c. search needs)
+    (λ c. omega (arith, lent t (c .before .before))) (λ c. omega (arith, lent t (c .before .before))) (λ c. omega (arith, lent t (c .before .before))) (kf-work-kf-work-requires t)
     (λ c. omega (arith, c .before .before .before .before .before .before .before .loop-test .taken, here t (c .before .before .before .before .before .before .before .before .before .before .before .before .before .before .before .before .before .before .before .before .before .before)))
-    (λ c. omega (arith, c .before .before .before .before .before .before .before .loop-test .taken))
-    (loop-again t)
-    (kf-work-kf-bfly-requires t)
+    (λ c. omega (arith, c .before .before .before .before .before .before .before .loop-test .taken)) (loop-again t) (kf-work-kf-bfly-requires t)
     (λ c. c .before .before .before .before .kf-bfly .kept .0 ∙ c .before .before .before .before .before .before .before .before .loop .inv .0)
-    (λ c. c .before .before .before .before .kf-bfly .kept .1 .0 ∙ c .before .before .before .before .before .before .before .before .loop .inv .1)
-    (returns-2 t)
+    (λ c. c .before .before .before .before .kf-bfly .kept .1 .0 ∙ c .before .before .before .before .before .before .before .before .loop .inv .1) (returns-2 t)
 
 pub +kf-work-spec : {M : Type 1} → statement M
 +kf-work-spec = safe kf-work-returns kf-work-loop-again kf-work-returns-2

@@ -20,31 +20,13 @@ kf-bfly3-requires c κs = omega (arith, at-radix _ 3 _ _ _ _ _ (c .before .befor
 kf-bfly4-requires : tie.Need-kf-bfly4-requires
 kf-bfly4-requires c κs = omega (arith, at-radix _ 4 _ _ _ _ _ (last (c .before .before)) (c .before .before .before .before .before .before .before .pre .3) (c .before .before .before .before .before .before .before .pre .4) (c .before .before .before .before .before .before .before .pre .5) (c .before .before .before .before .before .before .before .pre .6), c .before .before .before .before .before .before .before .pre .2)
 
-same-length : tie.Need-same-length
-same-length c = search needs
-
-same-length-2 : tie.Need-same-length-2
-same-length-2 c = search needs
-
 returns : tie.Need-returns
 unfolding packedColumn
 returns c = rw (c .before .before .before .before .before .before .before .match .keys1) (c .before .before .before .before .kf-bfly2 .ensures)
 
-same-length-3 : tie.Need-same-length-3
-same-length-3 c = search needs
-
-same-length-4 : tie.Need-same-length-4
-same-length-4 c = search needs
-
 returns-2 : tie.Need-returns-2
 unfolding packedColumn
 returns-2 c = rw (c .before .before .before .before .before .before .before .match .keys2) (c .before .before .before .before .kf-bfly3 .ensures)
-
-same-length-5 : tie.Need-same-length-5
-same-length-5 c = search needs
-
-same-length-6 : tie.Need-same-length-6
-same-length-6 c = search needs
 
 returns-3 : tie.Need-returns-3
 unfolding packedColumn
@@ -52,4 +34,5 @@ returns-3 c = rw (last (c .before .before .before .before .before .before .befor
 
 pub kf-bfly-spec : {M : Type 1} → statement M
 kf-bfly-spec =
-    tie.close (tie.spec kf-bfly2-requires kf-bfly3-requires kf-bfly4-requires same-length same-length-2 returns same-length-3 same-length-4 returns-2 same-length-5 same-length-6 returns-3)
+    tie.close (tie.spec kf-bfly2-requires kf-bfly3-requires kf-bfly4-requires (λ c. search needs) (λ c. search needs) returns (λ c. search needs) (λ c. search needs) returns-2 (λ c. search needs)
+    (λ c. search needs) returns-3)

@@ -24,7 +24,7 @@ shared-slice-read-s : tie.Need-shared-slice-read-s Inv-loop μ-loop
 shared-slice-read-s c = omega (arith, c .before .before .before .before .before .before .before .before .pre .0)
 
 mul-s : tie.Need-mul-s Inv-loop μ-loop
-mul-s c = omega (arith, c .before .before .before .before .before .before .before .before .pre .2, c .before .before .before .before .before .before .before .before .good)
+mul-s c = omega (arith, c .before .before .before .before .before .before .before .before .pre .1 .x-fits, c .before .before .before .before .before .before .before .before .good)
 
 loop-holds : tie.Need-loop-holds Inv-loop μ-loop
 loop-holds c = (refl, refl, omega arith, refl, within-zero 5 _ _)
@@ -33,43 +33,13 @@ shared-slice-read-if1 : tie.Need-shared-slice-read-if1 Inv-loop μ-loop
 shared-slice-read-if1 c = omega (arith, c .before .before .before .before .before .before .before .before .before .before .pre .0)
 
 mul-copied : tie.Need-mul-copied Inv-loop μ-loop
-mul-copied c = omega (arith, leaf-in (c .before .before .before .before .before .before .before .before .before .before .before .args .fstride) _ _ _ _ (c .before .before .before .before .before .before .before .before .before .before .before .pre .1) (c .if1 .taken) (c .before .before .before .before .before .before .before .before .before .before .before .pre .2), c .before .before .before .before .before .before .before .before .before .before .before .good)
+mul-copied c = omega (arith, leaf-in (c .before .before .before .before .before .before .before .before .before .before .before .args .fstride) _ _ _ _ (c .before .before .before .before .before .before .before .before .before .before .before .pre .1 .starts) (c .if1 .taken) (c .before .before .before .before .before .before .before .before .before .before .before .pre .1 .x-fits), c .before .before .before .before .before .before .before .before .before .before .before .good)
 
 add-copied : tie.Need-add-copied Inv-loop μ-loop
-add-copied c = omega (arith, leaf-in (c .before .before .before .before .before .before .before .before .before .before .before .args .fstride) _ _ _ _ (c .before .before .before .before .before .before .before .before .before .before .before .pre .1) (c .if1 .taken) (c .before .before .before .before .before .before .before .before .before .before .before .pre .2), c .before .before .before .before .before .before .before .before .before .before .before .good)
+add-copied c = omega (arith, leaf-in (c .before .before .before .before .before .before .before .before .before .before .before .args .fstride) _ _ _ _ (c .before .before .before .before .before .before .before .before .before .before .before .pre .1 .starts) (c .if1 .taken) (c .before .before .before .before .before .before .before .before .before .before .before .pre .1 .x-fits), c .before .before .before .before .before .before .before .before .before .before .before .good)
 
 copied-requires : tie.Need-copied-requires Inv-loop μ-loop
-copied-requires c κs = omega (arith, leaf-in (c .before .before .before .before .before .before .before .before .before .before .before .args .fstride) _ _ _ _ (c .before .before .before .before .before .before .before .before .before .before .before .pre .1) (c .if1 .taken) (c .before .before .before .before .before .before .before .before .before .before .before .pre .2), leaf-in (c .before .before .before .before .before .before .before .before .before .before .before .args .fstride) _ _ _ _ (c .before .before .before .before .before .before .before .before .before .before .before .pre .1) (c .if1 .taken) (c .before .before .before .before .before .before .before .before .before .before .before .pre .3), c .before .before .loop .inv .3)
-
-mul-kf-bfly5 : tie.Need-mul-kf-bfly5 Inv-loop μ-loop
-mul-kf-bfly5 c = search needs
-
-mul-kf-bfly5-2 : tie.Need-mul-kf-bfly5-2 Inv-loop μ-loop
-mul-kf-bfly5-2 c = search needs
-
-sub-kf-bfly5 : tie.Need-sub-kf-bfly5 Inv-loop μ-loop
-sub-kf-bfly5 c = search needs
-
-part-kf-bfly5-start : tie.Need-part-kf-bfly5-start Inv-loop μ-loop
-part-kf-bfly5-start c = search needs
-
-part-kf-bfly5-end : tie.Need-part-kf-bfly5-end Inv-loop μ-loop
-part-kf-bfly5-end c = search needs
-
-mul-kf-bfly5-3 : tie.Need-mul-kf-bfly5-3 Inv-loop μ-loop
-mul-kf-bfly5-3 c = search needs
-
-mul-kf-bfly5-4 : tie.Need-mul-kf-bfly5-4 Inv-loop μ-loop
-mul-kf-bfly5-4 c = search needs
-
-sub-kf-bfly5-2 : tie.Need-sub-kf-bfly5-2 Inv-loop μ-loop
-sub-kf-bfly5-2 c = search needs
-
-part-kf-bfly5-start-2 : tie.Need-part-kf-bfly5-start-2 Inv-loop μ-loop
-part-kf-bfly5-start-2 c = search needs
-
-part-kf-bfly5-end-2 : tie.Need-part-kf-bfly5-end-2 Inv-loop μ-loop
-part-kf-bfly5-end-2 c = search needs
+copied-requires c κs = omega (arith, leaf-in (c .before .before .before .before .before .before .before .before .before .before .before .args .fstride) _ _ _ _ (c .before .before .before .before .before .before .before .before .before .before .before .pre .1 .starts) (c .if1 .taken) (c .before .before .before .before .before .before .before .before .before .before .before .pre .1 .x-fits), leaf-in (c .before .before .before .before .before .before .before .before .before .before .before .args .fstride) _ _ _ _ (c .before .before .before .before .before .before .before .before .before .before .before .pre .1 .starts) (c .if1 .taken) (c .before .before .before .before .before .before .before .before .before .before .before .pre .1 .y-fits), c .before .before .loop .inv .3)
 
 kf-bfly5-requires : tie.Need-kf-bfly5-requires Inv-loop μ-loop
 kf-bfly5-requires c κs = omega (arith, c .before .before .before .if1 .taken, c .before .before .before .before .before .loop .inv .0, c .before .before .before .before .before .loop .inv .1, c .before .before .before .before .before .before .before .before .before .before .before .before .before .before .pre)
@@ -93,7 +63,7 @@ loop-again c =
       c .before .im .given .1 ∙ lp .inv .1,
       omega (arith, c .before .before .before .before .before .before .before .before .if1 .taken),
       lp .inv .3,
-      leaf-more u x s (a .fstride) (a .from) (lp .q) _ (lp .re) (lp .im) (c .before .before .before .before .kf-bfly5 .last .0) (c .before .before .before .before .kf-bfly5 .last .1 .0) _ (omega (arith, c .before .before .before .before .before .before .before .before .if1 .taken, lp .inv .0, c .before .before .before .before .before .before .before .before .before .before .before .before .before .before .before .before .before .before .before .pre .6)) (omega (arith, c .before .before .before .before .before .before .before .before .if1 .taken, lp .inv .1, c .before .before .before .before .before .before .before .before .before .before .before .before .before .before .before .before .before .before .before .pre .7)) (lp .inv .4) read (c .before .before .before .before .kf-bfly5 .ensures),
+      leaf-more u x s (a .fstride) (a .from) (lp .q) _ (lp .re) (lp .im) (c .before .before .before .before .kf-bfly5 .last .0) (c .before .before .before .before .kf-bfly5 .last .1 .0) _ (omega (arith, c .before .before .before .before .before .before .before .before .if1 .taken, lp .inv .0, c .before .before .before .before .before .before .before .before .before .before .before .before .before .before .before .before .before .before .before .pre .1 .re-fits)) (omega (arith, c .before .before .before .before .before .before .before .before .if1 .taken, lp .inv .1, c .before .before .before .before .before .before .before .before .before .before .before .before .before .before .before .before .before .before .before .pre .1 .im-fits)) (lp .inv .4) read (c .before .before .before .before .kf-bfly5 .ensures),
     )
 
 same-length : tie.Need-same-length Inv-loop μ-loop
@@ -109,5 +79,6 @@ returns c =
 
 pub kf-leaves-spec : {M : Type 1} → statement M
 kf-leaves-spec =
-    tie.close (tie.spec Inv-loop μ-loop shared-slice-read-s mul-s loop-holds shared-slice-read-if1 mul-copied add-copied copied-requires mul-kf-bfly5 mul-kf-bfly5-2 sub-kf-bfly5 part-kf-bfly5-start
-    part-kf-bfly5-end mul-kf-bfly5-3 mul-kf-bfly5-4 sub-kf-bfly5-2 part-kf-bfly5-start-2 part-kf-bfly5-end-2 kf-bfly5-requires add-q loop-less loop-again same-length same-length-2 returns)
+    tie.close (tie.spec Inv-loop μ-loop shared-slice-read-s mul-s loop-holds shared-slice-read-if1 mul-copied add-copied copied-requires (λ c. search needs) (λ c. search needs) (λ c. search needs)
+    (λ c. search needs) (λ c. search needs) (λ c. search needs) (λ c. search needs) (λ c. search needs) (λ c. search needs) (λ c. search needs) kf-bfly5-requires add-q loop-less loop-again same-length
+    same-length-2 returns)

@@ -11,7 +11,7 @@ use Rattle.complex.specs.declared.Complex.{Complex}
 use Rattle.complex.specs.Complex.{at}
 use Rattle.columns.specs.Column.{of5}
 use Rattle.quads.specs.Beside.{beside2}
-use Rattle.quads.specs.Rows.{rows, inTurn}
+use Rattle.quads.specs.Rows.{inTurn, turnedColumns}
 use Rattle.quads.proofs.Rows.{in-turn}
 use Rattle.butterflies.proofs.Columns.{done-five}
 use Rattle.butterflies.proofs.Local.{local2}
@@ -28,8 +28,7 @@ use Rattle.kf_work.proofs.transform_10.Tie as tie
 
 -- the stage over both innermost ones, by the plan of 10
 staged-10 : (u v x f g h k : ℕ → Complex) → v ≡ after u 2 5 → g ≡ within (2 * 5) (blocks (innermost v x 2) 5 1 0) f
-    → h ≡ rows 4 5 g 0 inTurn (λ c. beside2 u 5 (0 + c) (λ q. g (0 + c + 5 * q))) 2 → k ≡ rows 1 5 h 4 inTurn (λ c. beside2 u 5 (4 + c) (λ q. h (4 + c + 5 * q))) 2
-    → k ≡ within 10 (packedSpectrum u false 10 x) f
+    → h ≡ turnedColumns 4 2 5 inTurn (beside2 u 5) 0 g → k ≡ turnedColumns 1 2 5 inTurn (beside2 u 5) 4 h → k ≡ within 10 (packedSpectrum u false 10 x) f
 unfolding plan planned packedColumn packedSpectrum
 staged-10 u v x f g h k same done quad one =
     leaves-staged u v x false (plan 10) 2 5 (5 ∷ 1 ∷ []) 1 0 (split 2 5 (5 ∷ 1 ∷ []) tt) (omega arith) same refl refl f g k done (done-five 2 5 (beside2 u 5) (local2 u 5) inTurn (in-turn 2) g h k refl quad one)

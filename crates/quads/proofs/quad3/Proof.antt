@@ -1,28 +1,14 @@
 -- `quads::quad3` meets its contract: each row writes one more part of the four columns. Assumes nothing.
-use mathlib.Core.Path.{_≡_, refl}
-use mathlib.Core.List.{[], _∷_}
-use Prim.Native.Nat.{ℕ, _+_, _*_}
-use native.Mathlib.Nat.{add-zero}
+use mathlib.Core.Path.{refl}
 use native.Mathlib.Omega.{arith}
 use borrow.Author.Needs.{needs}
-use Rattle.complex.specs.declared.Complex.{Complex}
 use Rattle.complex.specs.Complex.{at}
-use Rattle.laws.specs.Lists.{tab}
 use Rattle.columns.specs.Column.{of3}
 use Rattle.quads.specs.Beside.{beside3}
 use Rattle.quads.specs.Rows.{inTurn}
-use Rattle.quads.proofs.Rows.{rows-more}
+use Rattle.quads.proofs.Rows.{row-more}
 use Rattle.quads.proofs.quad3.Statement.{statement}
 use Rattle.quads.proofs.quad3.Tie as tie
-
-turned3-requires : tie.Need-turned3-requires
-turned3-requires c κs = omega (arith, c .before .before .before .before .before .before .good .0, c .before .before .before .before .before .before .pre)
-
-add-turned3 : tie.Need-add-turned3
-add-turned3 c = omega (arith, c .before .before .before .before .before .before .before .before .before .good .0, c .before .before .before .before .before .before .before .before .before .pre)
-
-turned3-requires-2 : tie.Need-turned3-requires-2
-turned3-requires-2 c κs = omega (arith, c .before .before .before .before .before .before .before .before .before .good .0, c .before .before .before .before .before .before .before .before .before .pre)
 
 add-turned3-2 : tie.Need-add-turned3-2
 add-turned3-2 c = omega (arith, c .before .before .before .before .before .before .before .before .before .before .before .before .good .0, c .before .before .before .before .before .before .before .before .before .before .before .before .pre)
@@ -54,26 +40,17 @@ add-row-2 c = omega (arith, c .before .before .before .before .before .before .b
 row-requires-3 : tie.Need-row-requires-3
 row-requires-3 c κs = omega (arith, c .before .before .before .before .before .before .before .before .before .before .before .before .before .before .before .before .before .before .before .before .before .before .before .before .before .before .before .before .before .before .before .before .good .0, c .before .before .before .before .before .before .before .before .before .before .before .before .before .before .before .before .before .before .before .before .before .before .before .before .before .before .before .before .before .before .before .before .pre, c .before .before .before .before .before .before .row2 .kept, c .before .before .before .before .before .before .before .before .before .before .before .before .before .row .kept)
 
-same-length : tie.Need-same-length
-same-length c = search needs
-
-same-length-2 : tie.Need-same-length-2
-same-length-2 c = search needs
-
 returns : tie.Need-returns
-unfolding tab
 returns c =
     let a = c .before .before .before .before .before .before .before .before .before .before .before .before .before .before .before .before .before .before .before .before .before .before .before .before .before .before .before .before .before .before .before .before .before .before .before .before .before .args in
-    let f = at (a .re .now) (a .im .now) in
-    let v : ℕ → ℕ → Complex = λ k. beside3 (a .y) (at (a .tr .now) (a .ti .now)) (a .m) (a .j + k) (λ q. f (a .j + k + a .m * q)) in
-    let more = rows-more 4 (a .m) f (a .j) inTurn v in
-    let A : c .before .before .before .before .before .before .before .before .before .before .before .before .before .before .before .before .before .before .before .before .before .before .before .before .before .before .before .before .before .before .turned3 .result ≡ of3 (v 0) = simp add-zero (c .before .before .before .before .before .before .before .before .before .before .before .before .before .before .before .before .before .before .before .before .before .before .before .before .before .before .before .before .before .before .turned3 .ensures) in
-    let B = c .before .before .before .before .before .before .before .before .before .before .before .before .before .before .before .before .before .before .before .before .before .before .before .before .before .before .before .turned32 .ensures in
-    let C = c .before .before .before .before .before .before .before .before .before .before .before .before .before .before .before .before .before .before .before .before .before .before .before .before .turned33 .ensures in
-    let D = c .before .before .before .before .before .before .before .before .before .before .before .before .before .before .before .before .before .before .before .before .before .turned34 .ensures in
-    more 2 _ _ _ _ (omega arith) (more 1 _ _ _ _ (omega arith) (more 0 _ _ _ _ (omega arith) refl (λ z. A z .a ∷ B z .a ∷ C z .a ∷ D z .a ∷ []) (c .before .before .before .before .before .before .before .before .before .before .before .before .before .before .before .before .before .before .row .ensures)) (λ z. A z .b ∷ B z .b ∷ C z .b ∷ D z .b ∷ []) (c .before .before .before .before .before .before .before .before .before .before .before .row2 .ensures)) (λ z. A z .c ∷ B z .c ∷ C z .c ∷ D z .c ∷ []) (c .before .before .before .before .row3 .ensures)
+    let more = row-more of3 (a .m) inTurn (beside3 (a .y) (at (a .tr .now) (a .ti .now)) (a .m)) (a .j) (at (a .re .now) (a .im .now)) (c .before .before .before .before .before .before .before .before .before .before .before .before .before .before .before .before .before .before .before .before .before .before .before .before .before .before .before .before .before .before .turned3 .ensures) (c .before .before .before .before .before .before .before .before .before .before .before .before .before .before .before .before .before .before .before .before .before .before .before .before .before .before .before .turned32 .ensures) (c .before .before .before .before .before .before .before .before .before .before .before .before .before .before .before .before .before .before .before .before .before .before .before .before .turned33 .ensures) (c .before .before .before .before .before .before .before .before .before .before .before .before .before .before .before .before .before .before .before .before .before .turned34 .ensures) in
+    more 2 (λ v. v .c) _ _ _ (λ _. refl) (omega arith) (more 1 (λ v. v .b) _ _ _ (λ _. refl) (omega arith) (more 0 (λ v. v .a) _ _ _ (λ _. refl) (omega arith) refl (c .before .before .before .before .before .before .before .before .before .before .before .before .before .before .before .before .before .before .row .ensures)) (c .before .before .before .before .before .before .before .before .before .before .before .row2 .ensures)) (c .before .before .before .before .row3 .ensures)
+
+-- the needs without a name, for any answer: a wrong one hides none of them
+safe : tie.Need-returns → {M : Type 1} → statement M
+safe returns =
+    tie.close (tie.spec (λ c κs. search needs) (λ c. search needs) (λ c κs. search needs) add-turned3-2 turned3-requires-3 add-turned3-3 turned3-requires-4 row-requires add-row row-requires-2 mul-row
+    add-row-2 row-requires-3 (λ c. search needs) (λ c. search needs) returns)
 
 pub quad3-spec : {M : Type 1} → statement M
-quad3-spec =
-    tie.close (tie.spec turned3-requires add-turned3 turned3-requires-2 add-turned3-2 turned3-requires-3 add-turned3-3 turned3-requires-4 row-requires add-row row-requires-2 mul-row add-row-2
-    row-requires-3 same-length same-length-2 returns)
+quad3-spec = safe returns

@@ -1,29 +1,17 @@
 -- `quads::quad4` meets its contract: each row writes one more part of the four columns, the second and the fourth where the direction has them. Assumes nothing.
 use mathlib.Core.Path.{_≡_, refl, ap, _∙_}
 use mathlib.Core.Bool.{false}
-use mathlib.Core.List.{[], _∷_}
 use Prim.Native.Nat.{ℕ, _+_, _*_}
 use native.Mathlib.Omega.{arith}
 use borrow.Author.Needs.{needs}
-use Rattle.complex.specs.declared.Complex.{Complex}
 use Rattle.complex.specs.Complex.{at}
-use Rattle.laws.specs.Lists.{tab}
 use Rattle.columns.specs.Column.{of4}
 use Rattle.quads.specs.Beside.{beside4}
-use Rattle.quads.specs.Rows.{exchanged}
-use Rattle.quads.proofs.Rows.{rows-more}
+use Rattle.quads.specs.Rows.{exchanged, turned}
+use Rattle.quads.proofs.Rows.{row-more}
 use Rattle.quads.proofs.Read.{ordered, exchange4, exchanged-0, exchanged-2, sides}
 use Rattle.quads.proofs.quad4.Statement.{statement}
 use Rattle.quads.proofs.quad4.Tie as tie
-
-turned4-requires : tie.Need-turned4-requires
-turned4-requires c κs = omega (arith, c .before .before .before .before .before .before .good .0, c .before .before .before .before .before .before .pre)
-
-add-turned4 : tie.Need-add-turned4
-add-turned4 c = omega (arith, c .before .before .before .before .before .before .before .before .before .good .0, c .before .before .before .before .before .before .before .before .before .pre)
-
-turned4-requires-2 : tie.Need-turned4-requires-2
-turned4-requires-2 c κs = omega (arith, c .before .before .before .before .before .before .before .before .before .good .0, c .before .before .before .before .before .before .before .before .before .pre)
 
 add-turned4-2 : tie.Need-add-turned4-2
 add-turned4-2 c = omega (arith, c .before .before .before .before .before .before .before .before .before .before .before .before .good .0, c .before .before .before .before .before .before .before .before .before .before .before .before .pre)
@@ -36,9 +24,6 @@ add-turned4-3 c = omega (arith, c .before .before .before .before .before .befor
 
 turned4-requires-4 : tie.Need-turned4-requires-4
 turned4-requires-4 c κs = omega (arith, c .before .before .before .before .before .before .before .before .before .before .before .before .before .before .before .good .0, c .before .before .before .before .before .before .before .before .before .before .before .before .before .before .before .pre)
-
-second-requires : tie.Need-second-requires
-second-requires c κs = search needs
 
 sub-fourth : tie.Need-sub-fourth
 sub-fourth c = omega (arith, sides _ (c .before .before .before .before .before .before .before .before .before .before .before .before .before .before .before .before .before .args .m) _ (c .second .ensures))
@@ -73,30 +58,19 @@ add-row-3 c = omega (arith, c .before .before .before .before .before .before .b
 row-requires-4 : tie.Need-row-requires-4
 row-requires-4 c κs = omega (arith, c .before .before .before .before .before .before .before .before .before .before .before .before .before .before .before .before .before .before .before .before .before .before .before .before .before .before .before .before .before .before .before .before .before .before .before .before .before .before .before .before .good .0, c .before .before .before .before .before .before .before .before .before .before .before .before .before .before .before .before .before .before .before .before .before .before .before .before .before .before .before .before .before .before .before .before .before .before .before .before .before .before .before .before .pre, sides _ (c .before .before .before .before .before .before .before .before .before .before .before .before .before .before .before .before .before .before .before .before .before .before .before .before .before .before .before .before .before .before .before .before .before .before .before .before .before .before .before .before .args .m) _ (c .before .before .before .before .before .before .before .before .before .before .before .before .before .before .before .before .before .before .before .before .before .before .before .second .ensures), c .before .before .before .before .before .before .before .before .before .before .before .before .before .before .before .before .before .before .before .before .row .kept, c .before .before .before .before .before .before .before .before .before .before .before .before .before .row2 .kept, c .before .before .before .before .before .before .row3 .kept)
 
-same-length : tie.Need-same-length
-same-length c = search needs
-
-same-length-2 : tie.Need-same-length-2
-same-length-2 c = search needs
-
 returns : tie.Need-returns
-unfolding tab
 returns c =
     let a = c .before .before .before .before .before .before .before .before .before .before .before .before .before .before .before .before .before .before .before .before .before .before .before .before .before .before .before .before .before .before .before .before .before .before .before .before .before .before .before .before .before .before .before .before .before .args in
-    let f = at (a .re .now) (a .im .now) in
-    let u = at (a .tr .now) (a .ti .now) in
-    let v : ℕ → ℕ → Complex = λ k. beside4 (a .inverse) u (a .m) (a .j + k) (λ q. f (a .j + k + a .m * q)) in
-    let is : (k : ℕ) → of4 (beside4 false u (a .m) (a .j + k) (λ q. f (a .j + k + a .m * q))) ≡ ordered (exchanged (a .inverse)) (v k) = λ k. exchange4 (a .inverse) u (a .m) (a .j + k) (λ q. f (a .j + k + a .m * q)) in
-    let zero : a .j ≡ a .j + 0 = omega arith in
-    let A = c .before .before .before .before .before .before .before .before .before .before .before .before .before .before .before .before .before .before .before .before .before .before .before .before .before .before .before .before .before .before .before .before .before .before .before .before .before .before .turned4 .ensures ∙ ap (λ (j : ℕ). of4 (beside4 false u (a .m) j (λ q. f (j + a .m * q)))) zero ∙ is 0 in
-    let B = c .before .before .before .before .before .before .before .before .before .before .before .before .before .before .before .before .before .before .before .before .before .before .before .before .before .before .before .before .before .before .before .before .before .before .before .turned42 .ensures ∙ is 1 in
-    let C = c .before .before .before .before .before .before .before .before .before .before .before .before .before .before .before .before .before .before .before .before .before .before .before .before .before .before .before .before .before .before .before .before .turned43 .ensures ∙ is 2 in
-    let D = c .before .before .before .before .before .before .before .before .before .before .before .before .before .before .before .before .before .before .before .before .before .before .before .before .before .before .before .before .before .turned44 .ensures ∙ is 3 in
+    let is : (k : ℕ) → of4 (turned (a .m) (beside4 false (at (a .tr .now) (a .ti .now)) (a .m)) (at (a .re .now) (a .im .now)) k) ≡ ordered (exchanged (a .inverse)) (turned (a .m) (beside4 (a .inverse) (at (a .tr .now) (a .ti .now)) (a .m)) (at (a .re .now) (a .im .now)) k) = λ k. exchange4 (a .inverse) (at (a .tr .now) (a .ti .now)) (a .m) k _ in
     let s = sides (a .inverse) (a .m) _ (c .before .before .before .before .before .before .before .before .before .before .before .before .before .before .before .before .before .before .before .before .before .before .before .before .before .before .before .before .second .ensures) in
-    let more = rows-more 4 (a .m) f (a .j) (exchanged (a .inverse)) v in
-    more 3 _ _ _ _ (ap (λ (q : ℕ). a .j + a .m * q) (s .fourth-is)) (more 2 _ _ _ _ (ap (λ (q : ℕ). a .j + a .m * q) (exchanged-2 (a .inverse))) (more 1 _ _ _ _ (ap (λ (q : ℕ). a .j + a .m * q) (s .second-is)) (more 0 _ _ _ _ (exchanged-0 (a .inverse) (a .j) (a .m)) refl (λ z. A z .a ∷ B z .a ∷ C z .a ∷ D z .a ∷ []) (c .before .before .before .before .before .before .before .before .before .before .before .before .before .before .before .before .before .before .before .before .before .before .before .before .before .row .ensures)) (λ z. A z .b ∷ B z .b ∷ C z .b ∷ D z .b ∷ []) (c .before .before .before .before .before .before .before .before .before .before .before .before .before .before .before .before .before .before .row2 .ensures)) (λ z. A z .c ∷ B z .c ∷ C z .c ∷ D z .c ∷ []) (c .before .before .before .before .before .before .before .before .before .before .before .row3 .ensures)) (λ z. A z .d ∷ B z .d ∷ C z .d ∷ D z .d ∷ []) (c .before .before .before .before .row4 .ensures)
+    let more = row-more (ordered (exchanged (a .inverse))) (a .m) (exchanged (a .inverse)) (beside4 (a .inverse) (at (a .tr .now) (a .ti .now)) (a .m)) (a .j) (at (a .re .now) (a .im .now)) (c .before .before .before .before .before .before .before .before .before .before .before .before .before .before .before .before .before .before .before .before .before .before .before .before .before .before .before .before .before .before .before .before .before .before .before .before .before .before .turned4 .ensures ∙ is _) (c .before .before .before .before .before .before .before .before .before .before .before .before .before .before .before .before .before .before .before .before .before .before .before .before .before .before .before .before .before .before .before .before .before .before .before .turned42 .ensures ∙ is _) (c .before .before .before .before .before .before .before .before .before .before .before .before .before .before .before .before .before .before .before .before .before .before .before .before .before .before .before .before .before .before .before .before .turned43 .ensures ∙ is _) (c .before .before .before .before .before .before .before .before .before .before .before .before .before .before .before .before .before .before .before .before .before .before .before .before .before .before .before .before .before .turned44 .ensures ∙ is _) in
+    more 3 (λ v. v .d) _ _ _ (λ _. refl) (ap (λ (q : ℕ). a .j + a .m * q) (s .fourth-is)) (more 2 (λ v. v .c) _ _ _ (λ _. refl) (ap (λ (q : ℕ). a .j + a .m * q) (exchanged-2 (a .inverse))) (more 1 (λ v. v .b) _ _ _ (λ _. refl) (ap (λ (q : ℕ). a .j + a .m * q) (s .second-is)) (more 0 (λ v. v .a) _ _ _ (λ _. refl) (exchanged-0 (a .inverse) (a .j) (a .m)) refl (c .before .before .before .before .before .before .before .before .before .before .before .before .before .before .before .before .before .before .before .before .before .before .before .before .before .row .ensures)) (c .before .before .before .before .before .before .before .before .before .before .before .before .before .before .before .before .before .before .row2 .ensures)) (c .before .before .before .before .before .before .before .before .before .before .before .row3 .ensures)) (c .before .before .before .before .row4 .ensures)
+
+-- the needs without a name, for any answer: a wrong one hides none of them
+safe : tie.Need-returns → {M : Type 1} → statement M
+safe returns =
+    tie.close (tie.spec (λ c κs. search needs) (λ c. search needs) (λ c κs. search needs) add-turned4-2 turned4-requires-3 add-turned4-3 turned4-requires-4 (λ c κs. search needs) sub-fourth
+    row-requires mul-row add-row row-requires-2 mul-row-2 add-row-2 row-requires-3 mul-row-3 add-row-3 row-requires-4 (λ c. search needs) (λ c. search needs) returns)
 
 pub quad4-spec : {M : Type 1} → statement M
-quad4-spec =
-    tie.close (tie.spec turned4-requires add-turned4 turned4-requires-2 add-turned4-2 turned4-requires-3 add-turned4-3 turned4-requires-4 second-requires sub-fourth row-requires mul-row add-row
-    row-requires-2 mul-row-2 add-row-2 row-requires-3 mul-row-3 add-row-3 row-requires-4 same-length same-length-2 returns)
+quad4-spec = safe returns

@@ -9,48 +9,9 @@ use Rattle.complex.specs.Complex.{at}
 use Rattle.laws.specs.Lists.{tab}
 use Rattle.columns.specs.Column.{four, of4}
 use Rattle.quads.specs.Beside.{twistBy, beside, beside4}
-use Rattle.quads.proofs.Read.{first, second, third, sees4, seen}
+use Rattle.quads.proofs.Read.{first, later, sees4, seen}
 use Rattle.quads.proofs.turned4.Statement.{statement}
 use Rattle.quads.proofs.turned4.Tie as tie
-
-add-twiddled : tie.Need-add-twiddled
-add-twiddled c = search needs
-
-twiddled-requires : tie.Need-twiddled-requires
-twiddled-requires c κs = search needs
-
-mul-twiddled : tie.Need-mul-twiddled
-mul-twiddled c = search needs
-
-add-twiddled-2 : tie.Need-add-twiddled-2
-add-twiddled-2 c = search needs
-
-add-twiddled-3 : tie.Need-add-twiddled-3
-add-twiddled-3 c = search needs
-
-twiddled-requires-2 : tie.Need-twiddled-requires-2
-twiddled-requires-2 c κs = search needs
-
-mul-twiddled-2 : tie.Need-mul-twiddled-2
-mul-twiddled-2 c = search needs
-
-add-twiddled-4 : tie.Need-add-twiddled-4
-add-twiddled-4 c = search needs
-
-mul-twiddled-3 : tie.Need-mul-twiddled-3
-mul-twiddled-3 c = search needs
-
-add-twiddled-5 : tie.Need-add-twiddled-5
-add-twiddled-5 c = search needs
-
-twiddled-requires-3 : tie.Need-twiddled-requires-3
-twiddled-requires-3 c κs = omega (arith, c .before .before .before .before .before .before .pre)
-
-get-requires : tie.Need-get-requires
-get-requires c κs = search needs
-
-four-requires : tie.Need-four-requires
-four-requires c κs = search needs
 
 returns : tie.Need-returns
 unfolding tab beside4
@@ -58,9 +19,9 @@ returns c =
     let a = c .before .before .before .before .before .before .before .before .before .args in
     let f = at (a .re .now) (a .im .now) in
     let u = at (a .tr .now) (a .ti .now) in
-    c .four .ensures ∙ ap of4 (seen 4 (twistBy (beside u (a .m) (a .i)) (λ q. f (a .i + a .m * q))) (four false) (sees4 false) _ (λ j. first f (a .i) (a .m) _ (c .before .get .ensures) j ∷ second f u (a .i) (a .m) _ (c .before .before .before .before .twiddled .ensures) j ∷ third f u (a .i) (a .m) _ (c .before .before .before .twiddled2 .ensures) j ∷ c .before .before .twiddled3 .ensures j ∷ []))
+    c .four .ensures ∙ ap of4 (seen 4 (twistBy (beside u (a .m) (a .i)) (λ q. f (a .i + a .m * q))) (four false) (sees4 false) _ (λ j. first f (a .i) (a .m) (c .before .get .ensures) j ∷ later f u (a .i) (a .m) 0 (omega arith) (omega arith) (c .before .before .before .before .twiddled .ensures) j ∷ later f u (a .i) (a .m) 1 (omega arith) (omega arith) (c .before .before .before .twiddled2 .ensures) j ∷ c .before .before .twiddled3 .ensures j ∷ []))
 
 pub turned4-spec : {M : Type 1} → statement M
 turned4-spec =
-    tie.close (tie.spec add-twiddled twiddled-requires mul-twiddled add-twiddled-2 add-twiddled-3 twiddled-requires-2 mul-twiddled-2 add-twiddled-4 mul-twiddled-3 add-twiddled-5 twiddled-requires-3
-    get-requires four-requires returns)
+    tie.close (tie.spec (λ c. search needs) (λ c κs. search needs) (λ c. search needs) (λ c. search needs) (λ c. search needs) (λ c κs. search needs) (λ c. search needs) (λ c. search needs)
+    (λ c. search needs) (λ c. search needs) (λ c κs. omega (arith, c .before .before .before .before .before .before .pre)) (λ c κs. search needs) (λ c κs. search needs) returns)
