@@ -2,6 +2,7 @@
 use mathlib.Core.Path.{_≡_, sym, ap, _∙_}
 use mathlib.Core.Bool.{Bool, false, cond}
 use mathlib.Core.List.{List, _++_}
+use mathlib.Core.Logic.{_⊎_, inl, inr}
 use Prim.Native.Nat.{ℕ}
 use lib.IntN.{ℤ}
 use lib.Ieee.{Float}
@@ -122,15 +123,13 @@ turned-is b {m = m} {room = room} r p u e ea =
     ∙ (λ j. turnedAs (dc.answer (short (drop 1 b)) (tab (u .long j) (floatOf (drop 3 b)))) (u .asked j) (u .new j))
 
 -- 1 and 3: the fresh channel where the clear is accepted, and else the old one. D is what a clear gives
-module _ {C D R : Type 0} (make : C → Answer → R) (number : D → ℕ) (channel : D → C) (old : C) {d e : D} {a : Answer} (ed : d ≡ e) (ea : a ≡ plain (number d)) where
+module _ {C D R : Type 0} (make : C → Answer → R) (number : D → ℕ) (channel : D → C) (old : C) where
   abbrev kept : D → R
-  kept x = make (cond (eqb (number x) 0) (channel x) old) (plain (number x))
+  kept d = make (cond (eqb (number d) 0) (channel d) old) (plain (number d))
 
-  pub new-is : number d ≡ 0 → make (channel d) a ≡ kept e
-  new-is z = (λ j. make (cond (sym (eq-eqb (number d) 0 z) j) (channel d) old) (ea j)) ∙ ap kept ed
-
-  pub old-is : (number d ≡ 0 → ⊥) → make old a ≡ kept e
-  old-is z = (λ j. make (cond (sym (ne-eqb (number d) 0 z) j) (channel d) old) (ea j)) ∙ ap kept ed
+  pub kept-is : {d e : D} {new : C} {a : Answer} → d ≡ e → a ≡ plain (number d) → ((number d ≡ 0) × (new ≡ channel d)) ⊎ ((number d ≡ 0 → ⊥) × (new ≡ old)) → make new a ≡ kept e
+  kept-is {d} ed ea (inl (z, en)) = (λ j. make (en j) (ea j)) ∙ (λ j. make (cond (sym (eq-eqb (number d) 0 z) j) (channel d) old) (plain (number d))) ∙ ap kept ed
+  kept-is {d} ed ea (inr (z, en)) = (λ j. make (en j) (ea j)) ∙ (λ j. make (cond (sym (ne-eqb (number d) 0 z) j) (channel d) old) (plain (number d))) ∙ ap kept ed
 
 -- 7: what was heard at the configuration c, which is d, of the energies x, which are y
 pub told-is : (h : Heard) {c d : ℕ} {x y : List Float} {answer : Loudest} → h ≡ heard c x → c ≡ d → x ≡ y → h .loudest ≡ answer → told h answer ≡ loudestOn d y

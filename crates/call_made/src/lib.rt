@@ -6,7 +6,7 @@ ghost use lib.ListN.{length, getD, drop, replicate};
 ghost use Rattle.laws.specs.Lists.{tab};
 ghost use Rattle.call_log.specs.Log.{short, Places, sampleOf, floatOf};
 ghost use Rattle.dct_iv.specs.DctIv as dc;
-ghost use Rattle.call_made.specs.Made.{floats, pastFloats, pastSamples, withPeaks, one, plain, clearAnalysis, clearSynthesis, frameOn, frame, measureOn, measure, measureAfter, both, analyse, playOn, play, fftOn, fft, dct, loudestOn, loudest, askedAs, askOn, ask, setAnalysis, setSynthesis, withAnalysis, withSynthesis, withAnswer, fresh, onNone, onSynthesis, made};
+ghost use Rattle.call_made.specs.Made.{floats, pastFloats, pastSamples, withPeaks, one, plain, clearAnalysis, clearSynthesis, frameOn, frame, measureOn, measure, measureAfter, both, analyse, playOn, play, fftOn, fft, dct, loudestOn, loudest, askedAs, askOn, ask, setAnalysis, setSynthesis, withAnalysis, withSynthesis, withAnswer, benchOf, fresh, onNone, onSynthesis, made};
 use call_text::Extra;
 use loudest::Loudest;
 use near_nyquist::Asked;
@@ -122,16 +122,10 @@ fn with_peaks(
 fn clear_analysis(old: analysis::Channel, b: &[u8]) -> Analysed
     ensures { λ r. ⌜ r ≡ clearAnalysis old (now (b .entry)) ⌝ }
 {
-    let cleared = analysis::clear(call_log::byte_at(b, 1));
-    let answer = plain(cleared.number);
-    if cleared.number == 0 {
-        let channel = cleared.channel;
-        return Analysed { channel, answer };
-    }
-    Analysed {
-        channel: old,
-        answer,
-    }
+    let a = analysis::clear(call_log::byte_at(b, 1));
+    let channel = if a.number == 0 { a.channel } else { old };
+    let answer = plain(a.number);
+    Analysed { channel, answer }
 }
 
 // 11: frame to lines alone: the samples, the call. That the area has the places is said again, since lending them needs it.
@@ -259,16 +253,10 @@ fn both(first: Answer, second: Answer) -> Answer
 fn clear_synthesis(old: synthesis::Channel, b: &[u8]) -> Played
     ensures { λ r. ⌜ r ≡ clearSynthesis old (now (b .entry)) ⌝ }
 {
-    let cleared = synthesis::clear(call_log::byte_at(b, 1));
-    let answer = plain(cleared.number);
-    if cleared.number == 0 {
-        let channel = cleared.channel;
-        return Played { channel, answer };
-    }
-    Played {
-        channel: old,
-        answer,
-    }
+    let s = synthesis::clear(call_log::byte_at(b, 1));
+    let channel = if s.number == 0 { s.channel } else { old };
+    let answer = plain(s.number);
+    Played { channel, answer }
 }
 
 // 4: synthesis frame: the lines, the call.
@@ -445,19 +433,24 @@ fn set_synthesis(b: &[u8]) -> Played
     }
 }
 
+// The channels, with an answer.
+fn bench_of(analysis: analysis::Channel, synthesis: synthesis::Channel, answer: Answer) -> Bench
+    ensures { λ r. ⌜ r ≡ benchOf analysis synthesis answer ⌝ }
+{
+    Bench {
+        analysis,
+        synthesis,
+        answer,
+    }
+}
+
 // Entry. Both channels as a refused clear gives them.
 pub fn fresh() -> Bench
     ensures { λ r. ⌜ r ≡ fresh ⌝ }
 {
     let a = analysis::clear(255);
     let s = synthesis::clear(255);
-    let analysis = a.channel;
-    let synthesis = s.channel;
-    Bench {
-        analysis,
-        synthesis,
-        answer: plain(0),
-    }
+    bench_of(a.channel, s.channel, plain(0))
 }
 
 impl Bench {
@@ -465,41 +458,21 @@ impl Bench {
     fn analysed(self, made: Analysed) -> Bench
         ensures { λ r. ⌜ r ≡ withAnalysis self made ⌝ }
     {
-        let analysis = made.channel;
-        let synthesis = self.synthesis;
-        let answer = made.answer;
-        Bench {
-            analysis,
-            synthesis,
-            answer,
-        }
+        bench_of(made.channel, self.synthesis, made.answer)
     }
 
     // With a synthesis channel and an answer.
     fn played(self, made: Played) -> Bench
         ensures { λ r. ⌜ r ≡ withSynthesis self made ⌝ }
     {
-        let analysis = self.analysis;
-        let synthesis = made.channel;
-        let answer = made.answer;
-        Bench {
-            analysis,
-            synthesis,
-            answer,
-        }
+        bench_of(self.analysis, made.channel, made.answer)
     }
 
     // With an answer.
     fn answered(self, answer: Answer) -> Bench
         ensures { λ r. ⌜ r ≡ withAnswer self answer ⌝ }
     {
-        let analysis = self.analysis;
-        let synthesis = self.synthesis;
-        Bench {
-            analysis,
-            synthesis,
-            answer,
-        }
+        bench_of(self.analysis, self.synthesis, answer)
     }
 
     // A call on no channel, if it is one.

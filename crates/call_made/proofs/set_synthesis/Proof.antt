@@ -2,7 +2,7 @@
 use Rattle.call_log.specs.Log.{floatOf}
 use borrow.Author.Needs.{needs}
 use Rattle.call_made.specs.Made.{played, setSynthesis}
-use Rattle.call_made.proofs.Lends.{lends, filled}
+use Rattle.call_made.proofs.Lends.{read-into}
 use Rattle.call_made.proofs.set_synthesis.Statement.{statement}
 use Rattle.call_made.proofs.set_synthesis.Tie as tie
 
@@ -10,10 +10,8 @@ returns : tie.Need-returns
 unfolding setSynthesis
 returns c =
     let s = c .before .before .before .before .before in
-    let e = s .before .before .before .rest .ensures in
-    let l = lends (s .before .before .floats-300 .ensures) e (s .count-floats .ensures) in
-    let held = filled floatOf l e (c .before .before .before .floats .ensures) in
-    λ j. played (record { config = c .before .byte-at .ensures j; memory = held j }) (c .plain .ensures j)
+    let all = read-into floatOf (s .before .before .floats-300 .ensures) (s .before .before .before .rest .ensures) (s .count-floats .ensures) (c .before .before .before .floats .ensures) in
+    λ j. played (record { config = c .before .byte-at .ensures j; memory = all j }) (c .plain .ensures j)
 
 pub set-synthesis-spec : {M : Type 1} → statement M
 set-synthesis-spec =
