@@ -11,7 +11,8 @@ use lib.ListN.{length, getD, take, drop}
 use borrow.Author.Tests.{eq-eqb, ne-eqb}
 use Rattle.config.specs.declared.Verdict.{Verdict}
 use Rattle.laws.specs.Lists.{tab}
-use Rattle.call_log.specs.Log.{short, floatOf}
+use Rattle.frame_file.specs.File.{short}
+use Rattle.call_log.specs.Log.{floatOf}
 use Rattle.call_text.specs.declared.Extra.the-variants.{Nothing, Flag}
 use Rattle.kissfft.specs.Fft as ft
 use Rattle.dct_iv.specs.DctIv as dc
@@ -127,9 +128,9 @@ module _ {C D R : Type 0} (make : C → Answer → R) (number : D → ℕ) (chan
   abbrev kept : D → R
   kept d = make (cond (eqb (number d) 0) (channel d) old) (plain (number d))
 
-  pub kept-is : {d e : D} {new : C} {a : Answer} → d ≡ e → a ≡ plain (number d) → ((number d ≡ 0) × (new ≡ channel d)) ⊎ ((number d ≡ 0 → ⊥) × (new ≡ old)) → make new a ≡ kept e
-  kept-is {d} ed ea (inl (z, en)) = (λ j. make (en j) (ea j)) ∙ (λ j. make (cond (sym (eq-eqb (number d) 0 z) j) (channel d) old) (plain (number d))) ∙ ap kept ed
-  kept-is {d} ed ea (inr (z, en)) = (λ j. make (en j) (ea j)) ∙ (λ j. make (cond (sym (ne-eqb (number d) 0 z) j) (channel d) old) (plain (number d))) ∙ ap kept ed
+  pub kept-is : {d e : D} {new : C} → d ≡ e → ((number d ≡ 0) × (new ≡ channel d)) ⊎ ((number d ≡ 0 → ⊥) × (new ≡ old)) → make new (plain (number d)) ≡ kept e
+  kept-is {d} ed (inl (z, en)) = (λ j. make (en j) (plain (number d))) ∙ (λ j. make (cond (sym (eq-eqb (number d) 0 z) j) (channel d) old) (plain (number d))) ∙ ap kept ed
+  kept-is {d} ed (inr (z, en)) = (λ j. make (en j) (plain (number d))) ∙ (λ j. make (cond (sym (ne-eqb (number d) 0 z) j) (channel d) old) (plain (number d))) ∙ ap kept ed
 
 -- 7: what was heard at the configuration c, which is d, of the energies x, which are y
 pub told-is : (h : Heard) {c d : ℕ} {x y : List Float} {answer : Loudest} → h ≡ heard c x → c ≡ d → x ≡ y → h .loudest ≡ answer → told h answer ≡ loudestOn d y

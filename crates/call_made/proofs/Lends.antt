@@ -6,7 +6,8 @@ use native.Mathlib.Omega.{arith}
 use lib.ListN.{length, take, drop, length-append}
 use lib.Seq.{length-take-le}
 use Rattle.laws.specs.Lists.{tab}
-use Rattle.call_log.specs.Log.{short, Places}
+use Rattle.frame_file.specs.File.{short}
+use Rattle.call_log.specs.Log.{Places}
 
 -- n places of the room, which is a fresh one of `most` places, for the count at the front of l
 pub record Lends {A : Type 0} (most : ℕ) (fresh : List A) (l : List ℕ) (n : ℕ) (room : List A) : Type 0 where

@@ -18,7 +18,7 @@ use Rattle.laws.proofs.Lists.{first-none}
 use Rattle.config.specs.Config.{largest, nf, nb}
 use Rattle.config.proofs.Sound.{sound}
 use Rattle.loudest.specs.Loudest.{silent, loudest, heard}
-use Rattle.frame_file.specs.File.{lmf, byte, short, marked, headerOf, recordOf}
+use Rattle.frame_file.specs.File.{lmf, byte, shortAt, marked, headerOf, recordOf}
 use Rattle.call_log.specs.Log as log
 use Rattle.promises.specs.Papers.{lmc, Papers}
 
@@ -72,7 +72,7 @@ unfolding log.marked
 lmc-not f h = not-marked 0x4c 0x4d 0x43 f (omega arith)
 
 -- the version as the log's definition reads it
-version : (b : List ℕ) → log.short (drop 3 b) ≡ short b 3
+version : (b : List ℕ) → log.short (drop 3 b) ≡ shortAt b 3
 version b = rw (getD-drop 3 b 0 0, getD-drop 3 b 1 0)
 
 pub papers : Papers
@@ -92,9 +92,9 @@ papers =
       loud = λ c l v n p z. rw (le-leb c largest v, eq-eqb (length l) (nb c) n, eq-eqb (first passes7 l) (length l) p, ne-eqb (first silent l) (length l) (λ e. omega arith));
       short-file = λ f h. rw (lt-ltb (length f) 6 h);
       bad-mark = λ f h n. rw (le-ltb (length f) 6 h, lmf-not f h n);
-      bad-version = λ f h e n. rw (le-ltb (length f) 6 h, lmf-is f e, ne-eqb (short f 3) 1 n);
-      bad-config = λ f h e v c. rw (le-ltb (length f) 6 h, lmf-is f e, eq-eqb (short f 3) 1 v, lt-leb (byte f 5) largest c);
-      good = λ f h e v c. rw (le-ltb (length f) 6 h, lmf-is f e, eq-eqb (short f 3) 1 v, le-leb (byte f 5) largest c, v);
+      bad-version = λ f h e n. rw (le-ltb (length f) 6 h, lmf-is f e, ne-eqb (shortAt f 3) 1 n);
+      bad-config = λ f h e v c. rw (le-ltb (length f) 6 h, lmf-is f e, eq-eqb (shortAt f 3) 1 v, lt-leb (byte f 5) largest c);
+      good = λ f h e v c. rw (le-ltb (length f) 6 h, lmf-is f e, eq-eqb (shortAt f 3) 1 v, le-leb (byte f 5) largest c, v);
       at-end = λ c v. rw (le-leb c largest v);
       cut = λ c f v some few. rw (le-leb c largest v, ne-eqb (length f) 0 (λ e. omega arith), lt-ltb (length f) (2 * nf c) few);
       whole = λ c f v room.
@@ -103,8 +103,8 @@ papers =
       astray = λ c f v. rw (lt-leb c largest v);
       short-log = λ b h. rw (lt-ltb (length b) 5 h);
       bad-log-mark = λ b h n. rw (le-ltb (length b) 5 h, lmc-not b h n);
-      bad-log-version = λ b h e n. rw (le-ltb (length b) 5 h, lmc-is b e, version b, ne-eqb (short b 3) 3 n);
-      good-log = λ b h e v. rw (le-ltb (length b) 5 h, lmc-is b e, version b, eq-eqb (short b 3) 3 v);
+      bad-log-version = λ b h e n. rw (le-ltb (length b) 5 h, lmc-is b e, version b, ne-eqb (shortAt b 3) 3 n);
+      good-log = λ b h e v. rw (le-ltb (length b) 5 h, lmc-is b e, version b, eq-eqb (shortAt b 3) 3 v);
       whole-call = λ c b. rw (le-leb 1 (length (c ∷ b)) (omega arith));
       cut-call = refl;
     }

@@ -1,7 +1,8 @@
 -- `call_log::listed` meets its contract. The product fits, since a width is at most 4 and a count 16 bits. Assumes nothing.
 use mathlib.Core.Bool.{Bool}
 use lib.Dec.{leb}
-use Rattle.call_log.specs.Log.{short, pick, within}
+use Rattle.frame_file.specs.File.{short}
+use Rattle.call_log.specs.Log.{pick, within}
 use mathlib.Core.Path.{sym, ap, _∙_}
 use Prim.Native.Nat.{ℕ, _+_, _*_}
 use native.Mathlib.Nat.{mul-le-mul-right}

@@ -1,7 +1,7 @@
 -- `call_log::word` meets its contract: two halves, the second from the third byte on. Assumes nothing.
 use mathlib.Core.Path.{ap, _∙_}
 use native.Mathlib.Omega.{arith}
-use Rattle.call_log.specs.Log.{short}
+use Rattle.frame_file.specs.File.{short}
 use borrow.Author.Needs.{needs}
 use Rattle.call_log.proofs.word.Statement.{statement}
 use Rattle.call_log.proofs.word.Tie as tie

@@ -7,13 +7,13 @@ use lib.IntN.{ℤ, pos}
 use lib.ListN.{length}
 use borrow.Author.Needs.{needs}
 use Rattle.laws.proofs.Lists.{Filled, filled-none, filled-more, filled-all}
-use Rattle.frame_file.specs.File.{short, signed, samples}
+use Rattle.frame_file.specs.File.{shortAt, signed, samples}
 use Rattle.frame_file.proofs.Signed.{stored}
 use Rattle.frame_file.proofs.decode.Statement.{statement}
 use Rattle.frame_file.proofs.decode.Tie as tie
 
 abbrev Inv-loop : tie.InvT-loop
-Inv-loop bytes out₀ i₀ out i = (i ≤ length out₀) × Filled (λ k. signed (short bytes (2 * k))) out₀ i out
+Inv-loop bytes out₀ i₀ out i = (i ≤ length out₀) × Filled (λ k. signed (shortAt bytes (2 * k))) out₀ i out
 
 abbrev μ-loop : tie.MeasureT-loop
 μ-loop bytes out₀ i₀ out i = length out₀ - i
