@@ -13,6 +13,7 @@ use Rattle.laws.specs.Greatest.{best}
 use Rattle.loudest.specs.Loudest.{products, silent, heard, ofLoud, ofQuiet, ofRefusal, paper}
 use Rattle.frame_file.specs.File.{lmf, byte, shortAt, headerOf, recordOf}
 use Rattle.frame_file.specs.Paper.{Paper, headerPaper, recordPaper}
+use Rattle.call_log.specs.Log.{lmc}
 use Rattle.call_log.specs.Log as log
 use Rattle.call_log.specs.Paper as logPaper
 
@@ -31,10 +32,6 @@ ofLog b = logPaper.headerPaper (log.headerOf b)
 -- how many bytes the call at their front is said to take
 abbrev pub ofCall : List ℕ → List ℕ
 ofCall b = logPaper.takenValues (log.callTaken b)
-
--- `LMC`
-abbrev pub lmc : List ℕ
-lmc = 0x4c ∷ 0x4d ∷ 0x43 ∷ []
 
 -- a number and no values
 abbrev pub alone : ℕ → Paper
