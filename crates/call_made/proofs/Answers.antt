@@ -111,17 +111,17 @@ transformed-is b x {m = m} {n = n} {room = room} {other = other} r p q es ei ey 
     ∙ both-lent (transformedAs peaks) (λ j p q. ft.answer (es j) (ei j) x (ey j) p q) u v (sym e)
 
 -- 6: with what the DCT left
-abbrev turnedAs : dc.Answer → ℕ → List Float → Answer
-turnedAs a m room = one (a .judged .number) (a .judged .index) Nothing (a .held ++ drop m room) m
+abbrev dctAs : dc.Answer → ℕ → List Float → Answer
+dctAs a m room = one (a .judged .number) (a .judged .index) Nothing (a .held ++ drop m room) m
 
-pub turned-is : (b : List ℕ) {m : ℕ} {room : List Float} (r : Verdict) (p : List Float) {a : Answer} →
+pub dct-is : (b : List ℕ) {m : ℕ} {room : List Float} (r : Verdict) (p : List Float) {a : Answer} →
     Area (drop 3 b) m room → dc.left r p ≡ dc.answer (short (drop 1 b)) (tab (length (take m room)) (floatOf (drop 3 b))) →
     a ≡ one (r .number) (r .index) Nothing (p ++ drop m room) m → a ≡ dct b
 unfolding dct
-turned-is b {m = m} {room = room} r p u e ea =
+dct-is b {m = m} {room = room} r p u e ea =
     ea
-    ∙ ap (λ (a : dc.Answer). turnedAs a m room) e
-    ∙ (λ j. turnedAs (dc.answer (short (drop 1 b)) (tab (u .long j) (floatOf (drop 3 b)))) (u .asked j) (u .new j))
+    ∙ ap (λ (a : dc.Answer). dctAs a m room) e
+    ∙ (λ j. dctAs (dc.answer (short (drop 1 b)) (tab (u .long j) (floatOf (drop 3 b)))) (u .asked j) (u .new j))
 
 -- 1 and 3: the fresh channel where the clear is accepted, and else the old one. D is what a clear gives
 module _ {C D R : Type 0} (make : C → Answer → R) (number : D → ℕ) (channel : D → C) (old : C) where

@@ -46,7 +46,7 @@ line p a b c e f = two p a (b ++ c) e f ∙ ap (written p) (sym (append-assoc a 
 pub record Going {A : Type 0} (f : A → List ℕ) (x : List A) (out₀ : List ℕ) (k₀ : ℕ) (out : List ℕ) (k i : ℕ) : Type 0 where
   pub within : i ≤ length x
   pub kept : length out ≡ length out₀
-  pub left : written (page out k) (each f (drop i x)) ≡ written (page out₀ k₀) (each f x)
+  pub rest : written (page out k) (each f (drop i x)) ≡ written (page out₀ k₀) (each f x)
 
 each-cons : {A : Type 0} (f : A → List ℕ) (x : List A) (i : ℕ) (d : A) → i < length x → each f (drop i x) ≡ f (getD x i d) ++ each f (drop (i + 1) x)
 unfolding each
@@ -54,7 +54,7 @@ each-cons f x i d h = rw (add-one, drop-cons x i d)
 
 module _ {A : Type 0} {f : A → List ℕ} {x : List A} where
   pub begun : (out : List ℕ) (k : ℕ) → Going f x out k out k 0
-  begun out k = record { within = omega arith; kept = refl; left = refl }
+  begun out k = record { within = omega arith; kept = refl; rest = refl }
 
   pub again :
       (d : A) {out₀ : List ℕ} {k₀ : ℕ} {out : List ℕ} {k i : ℕ} (next : List ℕ) (n : ℕ)
@@ -67,15 +67,15 @@ module _ {A : Type 0} {f : A → List ℕ} {x : List A} where
       record {
         within = omega arith;
         kept = l ∙ g .kept;
-        left =
+        rest =
             two (page out k) (f (getD x i d)) (each f (drop (i + 1) x)) e refl
             ∙ ap (written (page out k)) (sym (each-cons f x i d h))
-            ∙ g .left;
+            ∙ g .rest;
       }
 
   pub done : {out₀ : List ℕ} {k₀ : ℕ} {out : List ℕ} {k i : ℕ} → Going f x out₀ k₀ out k i → length x ≤ i → page out k ≡ written (page out₀ k₀) (each f x)
   unfolding each written
-  done {out = out} {k = k} g h = ap (λ (l : List A). written (page out k) (each f l)) (sym (drop-of-length-le x h)) ∙ g .left
+  done {out = out} {k = k} g h = ap (λ (l : List A). written (page out k) (each f l)) (sym (drop-of-length-le x h)) ∙ g .rest
 
   -- and the line's end after it
   pub ended :
@@ -93,8 +93,8 @@ Texts f out₀ at x k₀ i₀ out k i = Going f x out₀ k₀ out k i
 abbrev pub Spaced : {A : Type 0} → (A → List ℕ) → List ℕ → ℕ → List A → ℕ → ℕ → List ℕ → ℕ → ℕ → Type 0
 Spaced f = Texts (λ y. space ++ f y)
 
-abbrev pub Left : {A : Type 0} → List ℕ → ℕ → List A → ℕ → ℕ → List ℕ → ℕ → ℕ → ℕ
-Left out₀ at x k₀ i₀ out k i = length x - i
+abbrev pub ToGo : {A : Type 0} → List ℕ → ℕ → List A → ℕ → ℕ → List ℕ → ℕ → ℕ → ℕ
+ToGo out₀ at x k₀ i₀ out k i = length x - i
 
 -- bytes are their own texts
 abbrev pub byte : ℕ → List ℕ

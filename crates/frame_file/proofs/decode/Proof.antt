@@ -21,39 +21,6 @@ abbrev μ-loop : tie.MeasureT-loop
 loop-holds : tie.Need-loop-holds Inv-loop μ-loop
 loop-holds c = (omega arith, filled-none _ _)
 
-mul-join : tie.Need-mul-join Inv-loop μ-loop
-mul-join c = search needs
-
-shared-slice-read-join : tie.Need-shared-slice-read-join Inv-loop μ-loop
-shared-slice-read-join c = search needs
-
-mul-join-2 : tie.Need-mul-join-2 Inv-loop μ-loop
-mul-join-2 c = search needs
-
-add-join : tie.Need-add-join Inv-loop μ-loop
-add-join c = search needs
-
-shared-slice-read-join-2 : tie.Need-shared-slice-read-join-2 Inv-loop μ-loop
-shared-slice-read-join-2 c = search needs
-
-join-requires : tie.Need-join-requires Inv-loop μ-loop
-join-requires c κs = search needs
-
-sample-requires : tie.Need-sample-requires Inv-loop μ-loop
-sample-requires c κs = search needs
-
-mul-t14 : tie.Need-mul-t14 Inv-loop μ-loop
-mul-t14 c = search needs
-
-slice-set-from-out : tie.Need-slice-set-from-out Inv-loop μ-loop
-slice-set-from-out c = search needs
-
-add-i : tie.Need-add-i Inv-loop μ-loop
-add-i c = search needs
-
-loop-less : tie.Need-loop-less Inv-loop μ-loop
-loop-less c = search needs
-
 loop-again : tie.Need-loop-again Inv-loop μ-loop
 loop-again c =
     let a = c .before .before .before .before .before .before .before .args in
@@ -72,5 +39,5 @@ returns c =
 
 pub decode-spec : {M : Type 1} → statement M
 decode-spec =
-    tie.close (tie.spec Inv-loop μ-loop loop-holds mul-join shared-slice-read-join mul-join-2 add-join shared-slice-read-join-2 join-requires sample-requires mul-t14 slice-set-from-out add-i loop-less
-    loop-again same-length returns)
+    tie.close (tie.spec Inv-loop μ-loop loop-holds (λ c. search needs) (λ c. search needs) (λ c. search needs) (λ c. search needs) (λ c. search needs) (λ c κs. search needs) (λ c κs. search needs)
+    (λ c. search needs) (λ c. search needs) (λ c. search needs) (λ c. search needs) loop-again same-length returns)
