@@ -1,4 +1,4 @@
-// Holds lines, energies and samples to the specification's sums in double precision, which tools/double_sums stored in data/sums. Prints for each
+// Compares lines, energies and samples with the specification's sums in double precision, which tools/double_sums stored in data/sums. Prints for each
 // configuration the worst error of each kind as a power of two of its frame's peak, and `failed` before that where one is above 2^-20.
 ghost use mathlib.Core.Path.{_≡_};
 ghost use Prim.Native.Nat.{_≤_, min};
@@ -70,7 +70,7 @@ fn floats_room() -> [f32; 480]
     [0.0; 480]
 }
 
-// Room for the peaks, which are not held to anything here.
+// Room for the peaks, which are compared with nothing here.
 fn places_room() -> [usize; 480]
     ensures { λ r. ⌜ 480 ≡ length r ⌝ }
 {
@@ -83,7 +83,7 @@ fn fill(fd: i32, buf: &mut [u8]) -> bool {
 }
 
 // How near values are to the sums that buf is filled with; not at all where those are cut.
-fn held_by(fd: i32, values: &[f32], buf: &mut [u8]) -> usize
+fn compare_by(fd: i32, values: &[f32], buf: &mut [u8]) -> usize
     requires { ⌜ length (now values) ≤ 480 ⌝ }
 {
     if !fill(fd, buf) {
@@ -93,12 +93,12 @@ fn held_by(fd: i32, values: &[f32], buf: &mut [u8]) -> usize
 }
 
 // How near values are to the next sums of the file.
-fn held(fd: i32, values: &[f32]) -> usize
+fn compare(fd: i32, values: &[f32]) -> usize
     requires { ⌜ length (now values) ≤ 480 ⌝ }
 {
     let mut buf = io::buffer();
     let n = 8 * values.len();
-    held_by(fd, values, &mut buf[..n])
+    compare_by(fd, values, &mut buf[..n])
 }
 
 fn samples_by(fd: i32, out: &mut [i16], buf: &mut [u8]) {
@@ -145,8 +145,8 @@ fn analyse_in(
     let framed = channel.frame(frame, lines);
     let next = framed.channel;
     measurement::measure(config, lines, energies, peaks);
-    let by_lines = held(fd, lines);
-    let by_energies = held(fd, energies);
+    let by_lines = compare(fd, lines);
+    let by_energies = compare(fd, energies);
     Analysed {
         channel: next,
         lines: by_lines,
@@ -179,7 +179,7 @@ fn play_in(fd: i32, channel: synthesis::Channel, lines: &mut [f32], samples: &mu
     read_lines(fd, lines);
     let framed = channel.frame(lines, samples);
     let next = framed.channel;
-    let by_samples = held(fd, samples);
+    let by_samples = compare(fd, samples);
     Played {
         channel: next,
         samples: by_samples,

@@ -3,21 +3,13 @@ ghost use mathlib.Core.Path.{_≡_};
 ghost use Prim.Native.Nat.{_+_, _*_, _≤_, min};
 ghost use lib.ListN.{length, drop};
 ghost use lib.Ieee.{ofBits, binary64};
-ghost use Rattle.call_log.specs.Log.{word};
 ghost use Rattle.against_double.specs.Near.{long, sumOf, magnitude, larger, peak, doublings, near, least};
-
-// 32 bits, little-endian, at the front.
-fn word(b: &[u8]) -> u32
-    ensures { λ r. ⌜ r ≡ word (now (b .entry)) ⌝ }
-{
-    call_log::short(b) as u32 + 65536 * (call_log::short(call_log::rest(b, 2)) as u32)
-}
 
 // 64 bits, little-endian, at the front.
 fn long(b: &[u8]) -> u64
     ensures { λ r. ⌜ r ≡ long (now (b .entry)) ⌝ }
 {
-    word(b) as u64 + 0x1_0000_0000 * (word(call_log::rest(b, 4)) as u64)
+    call_log::word(b) as u64 + 0x1_0000_0000 * (call_log::word(call_log::rest(b, 4)) as u64)
 }
 
 // The f64 of 64 bits. Every NaN's pattern is a NaN.

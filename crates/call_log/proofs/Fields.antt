@@ -8,12 +8,24 @@ use native.Mathlib.Nat.{not-suc-le-zero, le-of-suc-le-suc}
 use native.Mathlib.Omega.{arith}
 use borrow.Author.Tests.{leb-true}
 use lib.Dec.{leb}
-use lib.ListN.{length, getD, drop, length-drop}
+use lib.ListN.{length, getD, drop, length-drop, List·getD-append}
+use lib.Seq.{getD-append-add}
 use Rattle.call_log.specs.declared.layout.Field.{Field}
 use Rattle.call_log.specs.declared.layout.Field.the-variants.{Nothing, Byte, Flag, Number, Length, Samples, Floats, Unknown}
+use Rattle.call_log.specs.declared.layout.Row.{Row}
 use Rattle.call_log.specs.declared.Taken.{Taken}
 use Rattle.call_log.specs.declared.Taken.the-variants.{Whole, Stopped}
-use Rattle.call_log.specs.Log.{short, pick, within, fieldOf, fieldTaken, next, fields, callTaken}
+use Rattle.frame_file.specs.File.{short}
+use Rattle.call_log.specs.Log.{pick, within, six, each, fieldOf, fieldTaken, next, fields, callTaken}
+
+-- field i of row k is place 6 k + i of the rows one after the other
+pub row-field : (rs : List Row) (k i : ℕ) (d : Row) → k < length rs → i < 6 → getD (six (getD rs k d)) i Unknown ≡ getD (each rs) (6 * k + i) Unknown
+unfolding each
+row-field [] k i d h l = absurd (not-suc-le-zero h)
+row-field (r ∷ rs) zero i d h l = let e : 6 * 0 + i ≡ i = omega arith in rw e (sym (List·getD-append (six r) (each rs) Unknown i l))
+row-field (r ∷ rs) (suc k) i d h l =
+    let e : 6 * suc k + i ≡ 6 + (6 * k + i) = omega arith in
+    row-field rs k i d (le-of-suc-le-suc h) l ∙ sym (ap (λ (n : ℕ). getD (each (r ∷ rs)) n Unknown) e ∙ getD-append-add (six r) (each rs) (6 * k + i) Unknown)
 
 -- what is taken, if anything is, is at most n
 abbrev Fit : ℕ → Taken → Type 0
@@ -44,12 +56,6 @@ fit b Unknown = tt
 
 pub taken-within : (b : List ℕ) (f : Field) (n : ℕ) → fieldTaken b f ≡ Whole n → n ≤ length b
 taken-within b f n e = subst (Fit (length b)) e (fit b f)
-
--- inside a list, what stands past its end does not matter
-pub getD-any : {A : Type 0} (l : List A) (k : ℕ) (d e : A) → k < length l → getD l k d ≡ getD l k e
-getD-any [] k d e h = absurd (not-suc-le-zero h)
-getD-any (x ∷ xs) zero d e h = refl
-getD-any (x ∷ xs) (suc k) d e h = getD-any xs k d e (le-of-suc-le-suc h)
 
 -- one field more: where it stops, and where it is taken
 module _ (i kind : ℕ) (b : List ℕ) (k : ℕ) (less : i < 6) where

@@ -1,27 +1,24 @@
 -- The log of calls (`LMC`): numbers, values, header, calls. A byte is a number below 256, and a byte past the end is 0. Definitions only.
 use Prim.Native.Nat.{ℕ, zero, suc, _+_, _*_, _≤_}
-use mathlib.Core.Bool.{Bool, true, false, cond, _&&_}
+use mathlib.Core.Bool.{Bool, true, false, cond}
 use mathlib.Core.Path.{_≡_}
-use mathlib.Core.List.{List, [], _∷_}
+use mathlib.Core.List.{List, [], _∷_, _++_}
 use lib.IntN.{ℤ, pos}
 use lib.Dec.{ltb, leb, eqb}
 use lib.ListN.{length, getD, take, drop}
 use lib.Ieee.{Float, binary32, ofBits, ofInt, add}
-use Rattle.frame_file.specs.File.{signed}
+use Rattle.frame_file.specs.File.{short, signed, marked}
 use Rattle.refusals.specs.Refusals.{accepted, shortFile, badMark, badVersion}
 use Rattle.call_log.specs.declared.Header.{Header}
 use Rattle.call_log.specs.declared.Header.the-variants.{Good, Short, Unmarked, Foreign}
 use Rattle.call_log.specs.declared.layout.Field.{Field}
 use Rattle.call_log.specs.declared.layout.Field.the-variants.{Nothing, Byte, Flag, Number, Length, Samples, Floats, Unknown}
+use Rattle.call_log.specs.declared.layout.Row.{Row}
 use Rattle.call_log.specs.declared.Taken.{Taken}
 use Rattle.call_log.specs.declared.Taken.the-variants.{Whole, Stopped}
 
 -- ---- numbers at the front of some bytes, little-endian
--- 16 bits
-abbrev pub short : List ℕ → ℕ
-short b = getD b 0 0 + 256 * getD b 1 0
-
--- 32 bits
+-- 32 bits; 16 are the frame file's `short`
 abbrev pub word : List ℕ → ℕ
 word b = short b + 65536 * short (drop 2 b)
 
@@ -48,12 +45,12 @@ beforePeak i = i + 7
 
 -- ---- the header: "shorter than 5 bytes: refused 8; wrong mark: refused 9; another version: refused 10"
 -- "Three bytes LMC"
-unfoldable pub marked : List ℕ → Bool
-marked b = eqb (getD b 0 0) 0x4c && (eqb (getD b 1 0) 0x4d && eqb (getD b 2 0) 0x43)
+abbrev pub lmc : List ℕ
+lmc = 0x4c ∷ 0x4d ∷ 0x43 ∷ []
 
 -- "replay takes the current one alone": with the peaks, and the loudest band told the configuration, version 3
 unfoldable pub headerOf : List ℕ → Header
-headerOf b = cond (ltb (length b) 5) Short (cond (marked b) (cond (eqb (short (drop 3 b)) 3) Good Foreign) Unmarked)
+headerOf b = cond (ltb (length b) 5) Short (cond (marked lmc b) (cond (eqb (short (drop 3 b)) 3) Good Foreign) Unmarked)
 
 -- the paper's number for each case
 abbrev pub headerNumber : Header → ℕ
@@ -81,6 +78,14 @@ rows =
     Byte ∷ Floats 1024 ∷ Length ∷ Length ∷ Nothing ∷ Nothing ∷
     Unknown ∷ Nothing ∷ Nothing ∷ Nothing ∷ Nothing ∷ Nothing ∷
     Byte ∷ Floats 1024 ∷ Nothing ∷ Nothing ∷ Nothing ∷ Nothing ∷ []
+
+-- the fields of a row, and of all rows one after the other
+abbrev pub six : Row → List Field
+six r = r .0 ∷ r .1 ∷ r .2 ∷ r .3 ∷ r .4 ∷ r .5 ∷ []
+
+unfoldable pub each : List Row → List Field
+each [] = []
+each (r ∷ rs) = six r ++ each rs
 
 -- field i of a call of a kind
 unfoldable pub fieldOf : ℕ → ℕ → Field

@@ -5,7 +5,8 @@ ghost use Prim.Native.Nat.{_+_, _*_, _≤_, _<_, min};
 ghost use lib.ListN.{length, getD, drop, replicate};
 ghost use lib.Ieee.{ofBits, binary32};
 ghost use Rattle.laws.specs.Lists.{tab};
-ghost use Rattle.call_log.specs.Log.{short, word, Places, sampleOf, floatOf, before, beforePeak, marked, headerOf, headerNumber, within, listed, fieldTaken, callTaken};
+ghost use Rattle.frame_file.specs.File.{short};
+ghost use Rattle.call_log.specs.Log.{word, Places, sampleOf, floatOf, before, beforePeak, headerOf, headerNumber, within, listed, fieldTaken, callTaken};
 
 mod layout; // layout.rt: the fields of each kind of call
 
@@ -48,11 +49,11 @@ pub fn rest(b: &[u8], k: usize) -> &[u8]
 pub fn short(b: &[u8]) -> u16
     ensures { λ r. ⌜ r ≡ short (now (b .entry)) ⌝ }
 {
-    byte_at(b, 0) as u16 + 256 * (byte_at(b, 1) as u16)
+    frame_file::join(byte_at(b, 0), byte_at(b, 1))
 }
 
 // 32 bits, little-endian, at the front.
-fn word(b: &[u8]) -> u32
+pub fn word(b: &[u8]) -> u32
     ensures { λ r. ⌜ r ≡ word (now (b .entry)) ⌝ }
 {
     short(b) as u32 + 65536 * (short(rest(b, 2)) as u32)
@@ -169,19 +170,6 @@ pub fn peaks() -> [usize; 1024]
     out
 }
 
-// Whether the first three bytes are the mark.
-fn marked(b: &[u8]) -> bool
-    ensures { λ r. ⌜ r ≡ marked (now (b .entry)) ⌝ }
-{
-    if byte_at(b, 0) != 0x4c {
-        return false;
-    }
-    if byte_at(b, 1) != 0x4d {
-        return false;
-    }
-    byte_at(b, 2) == 0x43
-}
-
 // Entry. What the first five bytes of a log are.
 pub fn read_header(b: &[u8]) -> Header
     ensures { λ r. ⌜ r ≡ headerOf (now (b .entry)) ⌝ }
@@ -189,7 +177,7 @@ pub fn read_header(b: &[u8]) -> Header
     if b.len() < 5 {
         return Header::Short;
     }
-    if !marked(b) {
+    if !frame_file::begins(b, b"LMC") {
         return Header::Unmarked;
     }
     if short(rest(b, 3)) != 3 {

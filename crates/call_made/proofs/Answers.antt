@@ -2,6 +2,7 @@
 use mathlib.Core.Path.{_≡_, sym, ap, _∙_}
 use mathlib.Core.Bool.{Bool, false, cond}
 use mathlib.Core.List.{List, _++_}
+use mathlib.Core.Logic.{_⊎_, inl, inr}
 use Prim.Native.Nat.{ℕ}
 use lib.IntN.{ℤ}
 use lib.Ieee.{Float}
@@ -10,7 +11,8 @@ use lib.ListN.{length, getD, take, drop}
 use borrow.Author.Tests.{eq-eqb, ne-eqb}
 use Rattle.refusals.specs.declared.Verdict.{Verdict}
 use Rattle.laws.specs.Lists.{tab}
-use Rattle.call_log.specs.Log.{short, floatOf}
+use Rattle.frame_file.specs.File.{short}
+use Rattle.call_log.specs.Log.{floatOf}
 use Rattle.call_text.specs.declared.Extra.the-variants.{Nothing, Flag}
 use Rattle.kissfft.specs.Fft as ft
 use Rattle.dct_iv.specs.DctIv as dc
@@ -109,28 +111,26 @@ transformed-is b x {m = m} {n = n} {room = room} {other = other} r p q es ei ey 
     ∙ both-lent (transformedAs peaks) (λ j p q. ft.answer (es j) (ei j) x (ey j) p q) u v (sym e)
 
 -- 6: with what the DCT left
-abbrev turnedAs : dc.Answer → ℕ → List Float → Answer
-turnedAs a m room = one (a .judged .number) (a .judged .index) Nothing (a .buf ++ drop m room) m
+abbrev dctAs : dc.Answer → ℕ → List Float → Answer
+dctAs a m room = one (a .judged .number) (a .judged .index) Nothing (a .buf ++ drop m room) m
 
-pub turned-is : (b : List ℕ) {m : ℕ} {room : List Float} (r : Verdict) (p : List Float) {a : Answer} →
+pub dct-is : (b : List ℕ) {m : ℕ} {room : List Float} (r : Verdict) (p : List Float) {a : Answer} →
     Area (drop 3 b) m room → dc.outcome r p ≡ dc.answer (short (drop 1 b)) (tab (length (take m room)) (floatOf (drop 3 b))) →
     a ≡ one (r .number) (r .index) Nothing (p ++ drop m room) m → a ≡ dct b
 unfolding dct
-turned-is b {m = m} {room = room} r p u e ea =
+dct-is b {m = m} {room = room} r p u e ea =
     ea
-    ∙ ap (λ (a : dc.Answer). turnedAs a m room) e
-    ∙ (λ j. turnedAs (dc.answer (short (drop 1 b)) (tab (u .long j) (floatOf (drop 3 b)))) (u .asked j) (u .new j))
+    ∙ ap (λ (a : dc.Answer). dctAs a m room) e
+    ∙ (λ j. dctAs (dc.answer (short (drop 1 b)) (tab (u .long j) (floatOf (drop 3 b)))) (u .asked j) (u .new j))
 
 -- 1 and 3: the fresh channel where the clear is accepted, and else the old one. D is what a clear gives
-module _ {C D R : Type 0} (make : C → Answer → R) (number : D → ℕ) (channel : D → C) (old : C) {d e : D} {a : Answer} (ed : d ≡ e) (ea : a ≡ plain (number d)) where
+module _ {C D R : Type 0} (make : C → Answer → R) (number : D → ℕ) (channel : D → C) (old : C) where
   abbrev kept : D → R
-  kept x = make (cond (eqb (number x) 0) (channel x) old) (plain (number x))
+  kept d = make (cond (eqb (number d) 0) (channel d) old) (plain (number d))
 
-  pub new-is : number d ≡ 0 → make (channel d) a ≡ kept e
-  new-is z = (λ j. make (cond (sym (eq-eqb (number d) 0 z) j) (channel d) old) (ea j)) ∙ ap kept ed
-
-  pub old-is : (number d ≡ 0 → ⊥) → make old a ≡ kept e
-  old-is z = (λ j. make (cond (sym (ne-eqb (number d) 0 z) j) (channel d) old) (ea j)) ∙ ap kept ed
+  pub kept-is : {d e : D} {new : C} → d ≡ e → ((number d ≡ 0) × (new ≡ channel d)) ⊎ ((number d ≡ 0 → ⊥) × (new ≡ old)) → make new (plain (number d)) ≡ kept e
+  kept-is {d} ed (inl (z, en)) = (λ j. make (en j) (plain (number d))) ∙ (λ j. make (cond (sym (eq-eqb (number d) 0 z) j) (channel d) old) (plain (number d))) ∙ ap kept ed
+  kept-is {d} ed (inr (z, en)) = (λ j. make (en j) (plain (number d))) ∙ (λ j. make (cond (sym (ne-eqb (number d) 0 z) j) (channel d) old) (plain (number d))) ∙ ap kept ed
 
 -- 7: what was heard at the configuration c, which is d, of the energies x, which are y
 pub told-is : (h : Heard) {c d : ℕ} {x y : List Float} {answer : Loudest} → h ≡ heard c x → c ≡ d → x ≡ y → h .loudest ≡ answer → told h answer ≡ loudestOn d y

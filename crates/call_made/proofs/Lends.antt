@@ -6,7 +6,8 @@ use native.Mathlib.Omega.{arith}
 use lib.ListN.{length, take, drop, length-append}
 use lib.Seq.{length-take-le}
 use Rattle.laws.specs.Lists.{tab}
-use Rattle.call_log.specs.Log.{short, Places}
+use Rattle.frame_file.specs.File.{short}
+use Rattle.call_log.specs.Log.{Places}
 
 -- n places of the room, which is a fresh one of `most` places, for the count at the front of l
 pub record Lends {A : Type 0} (most : ℕ) (fresh : List A) (l : List ℕ) (n : ℕ) (room : List A) : Type 0 where
@@ -25,11 +26,13 @@ lends {most} made e counted =
 pub read-of : {A R : Type 0} {most n : ℕ} {fresh room : List A} {l : List ℕ} {r : R} (f : List A → R) (g : ℕ → A) → Lends most fresh l n room → r ≡ f (tab (length (take n room)) g) → r ≡ f (tab (min (short l) most) g)
 read-of f g u e = e ∙ ap (λ (k : ℕ). f (tab k g)) (u .long)
 
--- the room with the lent places read into, and the rest of it as it was
-pub filled : {A : Type 0} {most n : ℕ} {fresh room last : List A} {l read : List ℕ} (f : List ℕ → ℕ → A) →
-    Lends most fresh l n room → read ≡ l → last ≡ tab (length (take n room)) (f read) →
+-- a fresh room whose lent places are read into, and the rest of it as it was
+pub read-into : {A : Type 0} {most n : ℕ} {fresh room last : List A} {l read : List ℕ} (f : List ℕ → ℕ → A) →
+    (room ≡ fresh) × (most ≡ length room) → read ≡ l → (n ≡ min (short read) (length room)) × Places n room → last ≡ tab (length (take n room)) (f read) →
     last ++ drop n room ≡ tab (min (short l) most) (f l) ++ drop (min (short l) most) fresh
-filled {n = n} {room = room} f u e held = ap (λ (x : List _). x ++ drop n room) held ∙ (λ j. tab (u .long j) (f (e j)) ++ drop (u .asked j) (u .new j))
+read-into {n = n} {room = room} f made e counted filled =
+    let u = lends made e counted in
+    ap (λ (x : List _). x ++ drop n room) filled ∙ (λ j. tab (u .long j) (f (e j)) ++ drop (u .asked j) (u .new j))
 
 -- the lent places are there still when they have become `last`
 pub still : {A : Type 0} (n : ℕ) (room last : List A) → Places n room → length last ≡ length (take n room) → Places n (last ++ drop n room)

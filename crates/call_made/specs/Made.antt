@@ -7,7 +7,8 @@ use lib.Dec.{eqb}
 use lib.ListN.{getD, take, drop, set, replicate}
 use lib.Ieee.{Float, binary32, ofBits}
 use Rattle.laws.specs.Lists.{tab}
-use Rattle.call_log.specs.Log.{short, sampleOf, floatOf, before, beforePeak}
+use Rattle.frame_file.specs.File.{short}
+use Rattle.call_log.specs.Log.{sampleOf, floatOf, before, beforePeak}
 use Rattle.call_text.specs.declared.Extra.{Extra}
 use Rattle.call_text.specs.declared.Extra.the-variants.{Nothing, Flag, Band}
 use Rattle.kissfft.specs.Fft as ft

@@ -4,9 +4,10 @@ ghost use lib.IntN.{pos};
 ghost use lib.Ieee.{ofBits, binary32};
 ghost use lib.ListN.{length, getD, drop, replicate};
 ghost use Rattle.laws.specs.Lists.{tab};
-ghost use Rattle.call_log.specs.Log.{short, Places, sampleOf, floatOf};
+ghost use Rattle.frame_file.specs.File.{short};
+ghost use Rattle.call_log.specs.Log.{Places, sampleOf, floatOf};
 ghost use Rattle.dct_iv.specs.DctIv as dc;
-ghost use Rattle.call_made.specs.Made.{floats, pastFloats, pastSamples, withPeaks, one, plain, clearAnalysis, clearSynthesis, frameOn, frame, measureOn, measure, measureAfter, both, analyse, playOn, play, fftOn, fft, dct, loudestOn, loudest, askedAs, askOn, ask, setAnalysis, setSynthesis, withAnalysis, withSynthesis, withAnswer, fresh, onNone, onSynthesis, made};
+ghost use Rattle.call_made.specs.Made.{floats, pastFloats, pastSamples, withPeaks, one, plain, analysed, played, clearAnalysis, clearSynthesis, frameOn, frame, measureOn, measure, measureAfter, both, analyse, playOn, play, fftOn, fft, dct, loudestOn, loudest, askedAs, askOn, ask, setAnalysis, setSynthesis, withAnalysis, withSynthesis, withAnswer, benchOf, fresh, onNone, onSynthesis, made};
 use call_text::Extra;
 use loudest::Loudest;
 use near_nyquist::Asked;
@@ -118,20 +119,29 @@ fn with_peaks(
     }
 }
 
+// An analysis channel, with an answer that has no output area.
+fn analysed_as(channel: analysis::Channel, number: u8) -> Analysed
+    ensures { λ r. ⌜ r ≡ analysed channel (plain number) ⌝ }
+{
+    let answer = plain(number);
+    Analysed { channel, answer }
+}
+
+// The same of a synthesis channel.
+fn played_as(channel: synthesis::Channel, number: u8) -> Played
+    ensures { λ r. ⌜ r ≡ played channel (plain number) ⌝ }
+{
+    let answer = plain(number);
+    Played { channel, answer }
+}
+
 // 1: clear of the analysis channel.
 fn clear_analysis(old: analysis::Channel, b: &[u8]) -> Analysed
     ensures { λ r. ⌜ r ≡ clearAnalysis old (now (b .entry)) ⌝ }
 {
-    let cleared = analysis::clear(call_log::byte_at(b, 1));
-    let answer = plain(cleared.number);
-    if cleared.number == 0 {
-        let channel = cleared.channel;
-        return Analysed { channel, answer };
-    }
-    Analysed {
-        channel: old,
-        answer,
-    }
+    let a = analysis::clear(call_log::byte_at(b, 1));
+    let channel = if a.number == 0 { a.channel } else { old };
+    analysed_as(channel, a.number)
 }
 
 // 11: frame to lines alone: the samples, the call. That the area has the places is said again, since lending them needs it.
@@ -259,16 +269,9 @@ fn both(first: Answer, second: Answer) -> Answer
 fn clear_synthesis(old: synthesis::Channel, b: &[u8]) -> Played
     ensures { λ r. ⌜ r ≡ clearSynthesis old (now (b .entry)) ⌝ }
 {
-    let cleared = synthesis::clear(call_log::byte_at(b, 1));
-    let answer = plain(cleared.number);
-    if cleared.number == 0 {
-        let channel = cleared.channel;
-        return Played { channel, answer };
-    }
-    Played {
-        channel: old,
-        answer,
-    }
+    let s = synthesis::clear(call_log::byte_at(b, 1));
+    let channel = if s.number == 0 { s.channel } else { old };
+    played_as(channel, s.number)
 }
 
 // 4: synthesis frame: the lines, the call.
@@ -424,10 +427,7 @@ fn set_analysis(b: &[u8]) -> Analysed
     let k = call_log::count_samples(input, &samples);
     call_log::samples(input, &mut samples[..k]);
     let config = call_log::byte_at(b, 1);
-    Analysed {
-        channel: analysis::Channel { config, samples },
-        answer: plain(0),
-    }
+    analysed_as(analysis::Channel { config, samples }, 0)
 }
 
 // 10: set of the synthesis channel.
@@ -439,9 +439,17 @@ fn set_synthesis(b: &[u8]) -> Played
     let k = call_log::count_floats(input, &memory);
     call_log::floats(input, &mut memory[..k]);
     let config = call_log::byte_at(b, 1);
-    Played {
-        channel: synthesis::Channel { config, memory },
-        answer: plain(0),
+    played_as(synthesis::Channel { config, memory }, 0)
+}
+
+// The channels, with an answer.
+fn bench_of(analysis: analysis::Channel, synthesis: synthesis::Channel, answer: Answer) -> Bench
+    ensures { λ r. ⌜ r ≡ benchOf analysis synthesis answer ⌝ }
+{
+    Bench {
+        analysis,
+        synthesis,
+        answer,
     }
 }
 
@@ -451,13 +459,7 @@ pub fn fresh() -> Bench
 {
     let a = analysis::clear(255);
     let s = synthesis::clear(255);
-    let analysis = a.channel;
-    let synthesis = s.channel;
-    Bench {
-        analysis,
-        synthesis,
-        answer: plain(0),
-    }
+    bench_of(a.channel, s.channel, plain(0))
 }
 
 impl Bench {
@@ -465,41 +467,21 @@ impl Bench {
     fn analysed(self, made: Analysed) -> Bench
         ensures { λ r. ⌜ r ≡ withAnalysis self made ⌝ }
     {
-        let analysis = made.channel;
-        let synthesis = self.synthesis;
-        let answer = made.answer;
-        Bench {
-            analysis,
-            synthesis,
-            answer,
-        }
+        bench_of(made.channel, self.synthesis, made.answer)
     }
 
     // With a synthesis channel and an answer.
     fn played(self, made: Played) -> Bench
         ensures { λ r. ⌜ r ≡ withSynthesis self made ⌝ }
     {
-        let analysis = self.analysis;
-        let synthesis = made.channel;
-        let answer = made.answer;
-        Bench {
-            analysis,
-            synthesis,
-            answer,
-        }
+        bench_of(self.analysis, made.channel, made.answer)
     }
 
     // With an answer.
     fn answered(self, answer: Answer) -> Bench
         ensures { λ r. ⌜ r ≡ withAnswer self answer ⌝ }
     {
-        let analysis = self.analysis;
-        let synthesis = self.synthesis;
-        Bench {
-            analysis,
-            synthesis,
-            answer,
-        }
+        bench_of(self.analysis, self.synthesis, answer)
     }
 
     // A call on no channel, if it is one.

@@ -69,9 +69,9 @@ minus-one n =
 none-below : (n : ℕ) → ltZ (pos n) (pos 0) ≡ true → ⊥
 none-below n e = let h : n < 0 = ltb-true n 0 e in omega arith
 
-pub turned : (z : ℤ) → SFits w16 z → ltZ z (pos 0) ≡ true → Small (negsuc 0 -ℤ z)
-turned (pos n) h e = absurd (none-below n e)
-turned (negsuc n) h e = record { size = n; low = h .sfits; is = minus-one n }
+pub complement : (z : ℤ) → SFits w16 z → ltZ z (pos 0) ≡ true → Small (negsuc 0 -ℤ z)
+complement (pos n) h e = absurd (none-below n e)
+complement (negsuc n) h e = record { size = n; low = h .sfits; is = minus-one n }
 
 pub as-it-is : (z : ℤ) → SFits w16 z → ltZ z (pos 0) ≡ false → Small z
 as-it-is (pos n) h e = record { size = n; low = h .sfits; is = refl }
@@ -99,10 +99,10 @@ module _ (x : ℤ) (h : SFits w16 x) where
   pub read-test : {b : Bool} → ltZ (toZ w16 (ofZ w16 x)) (pos 0) ≡ b → ltZ x (pos 0) ≡ b
   read-test e = ap (λ (z : ℤ). ltZ z (pos 0)) (sym (toZ-ofZ w16 x h)) ∙ e
 
-pub size-turned : (z : ℤ) (h : SFits w16 z) (e : ltZ z (pos 0) ≡ true) → turned z h e .size + 1 ≡ natAbs z
-unfolding turned
-size-turned (pos n) h e = absurd (none-below n e)
-size-turned (negsuc n) h e = add-one n
+pub size-complement : (z : ℤ) (h : SFits w16 z) (e : ltZ z (pos 0) ≡ true) → complement z h e .size + 1 ≡ natAbs z
+unfolding complement
+size-complement (pos n) h e = absurd (none-below n e)
+size-complement (negsuc n) h e = add-one n
 
 pub sign-below : (z : ℤ) → ltZ z (pos 0) ≡ true → 0x2d ∷ [] ≡ sign z
 sign-below (pos n) e = absurd (none-below n e)

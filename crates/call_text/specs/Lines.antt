@@ -6,7 +6,7 @@ use lib.Dec.{eqb}
 use lib.IntN.{ℤ, pos, negsuc, natAbs}
 use lib.Ieee.{Float, binary32, toBits, isNan}
 use Rattle.io.specs.Digits.{digits}
-use Rattle.plain_text.specs.Text.{space, newline, decimal}
+use Rattle.plain_text.specs.Text.{space, newline, digit, decimal}
 use Rattle.call_text.specs.declared.Extra.{Extra}
 use Rattle.call_text.specs.declared.Extra.the-variants.{Nothing, Flag, Band}
 
@@ -111,7 +111,7 @@ numbers a b = decimal a ++ space ++ decimal b ++ space
 -- "EXTRA is the flag 0 or 1 for kind 2, the band or `-` for kind 7, `-` else", "Kind 12: EXTRA the flag", "Kind 14: EXTRA the answer 0 or 1"
 abbrev pub extra : Extra → List ℕ
 extra Nothing = 0x2d ∷ []
-extra (Flag flag) = cond flag 0x31 0x30 ∷ []
+extra (Flag flag) = digit flag ∷ []
 extra (Band band) = decimal band
 
 -- "For each call a line `K KIND NUMBER INDEX EXTRA`": `numbers` of K and KIND, and then

@@ -1,7 +1,6 @@
 // The text that a call of the log is answered with, written into a lent buffer: each function writes from place `at` on and returns the place after
 // what it wrote. A byte that finds no room is dropped, so that nothing is asked of a caller. New in this port.
 ghost use mathlib.Core.Path.{_≡_};
-ghost use mathlib.Core.Bool.{cond};
 ghost use mathlib.Core.List.{[], _∷_, _++_};
 ghost use Prim.Native.Nat.{min};
 ghost use lib.IntN.{natAbs};
@@ -153,20 +152,13 @@ fn put_worded(out: &mut [u8], at: usize, word: &[u8], n: u64) -> usize
     put_decimal(out, spaced, n)
 }
 
-// The flag as a digit.
-fn digit(flag: bool) -> u8
-    ensures { λ r. ⌜ r ≡ cond flag 0x31 0x30 ⌝ }
-{
-    if flag { b'1' } else { b'0' }
-}
-
 // EXTRA.
 fn put_extra(out: &mut [u8], at: usize, e: Extra) -> usize
     ensures { λ r. ⌜ page (now (out .exit)) r ≡ written (page (now (out .entry)) at) (extra e) ⌝ }
 {
     match e {
         Extra::Nothing => put(out, at, b'-'),
-        Extra::Flag(flag) => put(out, at, digit(flag)),
+        Extra::Flag(flag) => put(out, at, plain_text::digit(flag)),
         Extra::Band(band) => put_decimal(out, at, band as u64),
     }
 }

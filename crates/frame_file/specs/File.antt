@@ -18,9 +18,12 @@ use Rattle.frame_file.specs.declared.Record.the-variants.{Frame, End, Cu
 abbrev pub byte : List ℕ → ℕ → ℕ
 byte f k = getD f k 0
 
--- 16 bits little-endian from place k on
-abbrev pub short : List ℕ → ℕ → ℕ
-short f k = byte f k + 256 * byte f (k + 1)
+-- 16 bits little-endian from place k on, and at the front
+abbrev pub shortAt : List ℕ → ℕ → ℕ
+shortAt f k = byte f k + 256 * byte f (k + 1)
+
+abbrev pub short : List ℕ → ℕ
+short f = shortAt f 0
 
 -- 16 bits as a signed number
 unfoldable pub signed : ℕ → ℤ
@@ -28,7 +31,7 @@ signed n = cond (ltb n 0x8000) (pos n) (negsuc (0xffff - n))
 
 -- n samples, 16 bits little-endian each
 unfoldable pub samples : ℕ → List ℕ → List ℤ
-samples n f = tab n (λ k. signed (short f (2 * k)))
+samples n f = tab n (λ k. signed (shortAt f (2 * k)))
 
 -- ---- the header: mark, version, configuration, tested in the order 8, 9, 10, 1
 -- `LMF`
@@ -41,7 +44,7 @@ marked mark f = eqb (byte f 0) (byte mark 0) && (eqb (byte f 1) (byte mark 1) &&
 unfoldable pub headerOf : List ℕ → List ℕ → Header
 headerOf mark f =
     cond (ltb (length f) 6) Short
-    (cond (marked mark f) (cond (eqb (short f 3) 1) (cond (valid (byte f 5)) (Good (short f 3) (byte f 5)) Unknown) Foreign) Unmarked)
+    (cond (marked mark f) (cond (eqb (shortAt f 3) 1) (cond (valid (byte f 5)) (Good (shortAt f 3) (byte f 5)) Unknown) Foreign) Unmarked)
 
 -- the paper's number for each case
 abbrev pub headerNumber : Header → ℕ

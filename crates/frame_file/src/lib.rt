@@ -2,7 +2,7 @@
 ghost use mathlib.Core.Path.{_≡_};
 ghost use Prim.Native.Nat.{_+_, _*_, _≤_};
 ghost use lib.ListN.{length};
-ghost use Rattle.frame_file.specs.File.{short, signed, samples, lmf, marked, headerOf, headerNumber, recordOf, recordNumber};
+ghost use Rattle.frame_file.specs.File.{signed, samples, lmf, marked, headerOf, headerNumber, recordOf, recordNumber};
 
 // What a header says: good with its version and configuration, or why it is refused.
 pub enum Header {
@@ -23,14 +23,14 @@ pub enum Record {
 }
 
 // 16 bits, little-endian.
-fn join(low: u8, high: u8) -> u16
+pub fn join(low: u8, high: u8) -> u16
     ensures { λ r. ⌜ r ≡ low + 256 * high ⌝ }
 {
     low as u16 + 256 * (high as u16)
 }
 
-// Whether a file of three bytes or more begins with the mark.
-fn begins(file: &[u8], mark: &[u8; 3]) -> bool
+// Inner. Whether a file of three bytes or more begins with the mark.
+pub fn begins(file: &[u8], mark: &[u8; 3]) -> bool
     requires { ⌜ 3 ≤ length (now file) ⌝ }
     ensures { λ r. ⌜ r ≡ marked (now (mark .entry)) (now (file .entry)) ⌝ }
 {

@@ -22,12 +22,12 @@ use Rattle.frame_file.specs.declared.Header.{Header}
 use Rattle.frame_file.specs.declared.Header.the-variants.{Good, Short, Unmarked, Foreign, Unknown}
 use Rattle.frame_file.specs.declared.Record.{Record}
 use Rattle.frame_file.specs.declared.Record.the-variants.{Frame, End, Cut, Astray}
-use Rattle.frame_file.specs.File.{lmf, byte, short, samples, marked, headerOf, frameBytes, recordOf, Contents, more, ended, reading, contents}
+use Rattle.frame_file.specs.File.{lmf, byte, shortAt, samples, marked, headerOf, frameBytes, recordOf, Contents, more, ended, reading, contents}
 use Rattle.listing.specs.declared.Lister.{Lister}
 use Rattle.listing.specs.declared.Stepped.{Stepped}
 use Rattle.listing.specs.Text.{firstLine}
 use Rattle.listing.specs.Listing.{zeros, listened, lineOf, frameLines, lastLine, listed, listing}
-use Rattle.listing.specs.Steps.{text, said, start, told, opened, opening, counted, framed, found, step, written, held}
+use Rattle.listing.specs.Steps.{text, said, start, told, opened, opening, counted, framed, found, step, written, wholeFrames}
 use Rattle.listing.specs.Whole.{Listed}
 use Rattle.laws.proofs.Bools.{outcomes}
 use Rattle.listing.proofs.Found.{usedBy, whole}
@@ -181,11 +181,11 @@ decided false true true true v c v' c' q = (refl, ap configOf q)
 good-valid : (f : List ℕ) (v c : ℕ) → headerOf lmf f ≡ Good v c → T (valid c)
 unfolding headerOf
 good-valid f v c q =
-    let d = decided (ltb (length f) 6) (marked lmf f) (eqb (short f 3) 1) (valid (byte f 5)) (short f 3) (byte f 5) v c q in
+    let d = decided (ltb (length f) 6) (marked lmf f) (eqb (shortAt f 3) 1) (valid (byte f 5)) (shortAt f 3) (byte f 5) v c q in
     subst (λ (k : ℕ). T (valid k)) (d .1) (subst T (sym (d .0)) tt)
 
 -- ---- the whole file
-good : (f : List ℕ) (v c : ℕ) → T (valid c) → held (Good v c) f < 2 ^ 64 → written (suc (length f)) (opened (Good v c)) f ≡ listed (Good v c) f
+good : (f : List ℕ) (v c : ℕ) → T (valid c) → wholeFrames (Good v c) f < 2 ^ 64 → written (suc (length f)) (opened (Good v c)) f ≡ listed (Good v c) f
 unfolding contents
 good f v c known few =
     let g = drop 6 f in
@@ -195,7 +195,7 @@ good f v c known few =
     (run (suc (length g)) (length f) c (start c) g (cleared-config c known) (omega arith) (omega (arith, length-drop 6 f)) (omega arith)
     ∙ ap (λ (z : ℕ). frameLines (cleared c .channel) 0 (k .frames) ++ lastLine z (k .ending)) (add-zero (length (k .frames))))
 
-of-header : (f : List ℕ) (h : Header) → headerOf lmf f ≡ h → held h f < 2 ^ 64 → written (suc (length f)) (opened h) f ≡ listed h f
+of-header : (f : List ℕ) (h : Header) → headerOf lmf f ≡ h → wholeFrames h f < 2 ^ 64 → written (suc (length f)) (opened h) f ≡ listed h f
 of-header f (Good v c) q few = good f v c (good-valid f v c q) few
 of-header f Short q few = ends (suc (length f)) _ f (start 255)
 of-header f Unmarked q few = ends (suc (length f)) _ f (start 255)

@@ -1,5 +1,6 @@
 -- THE LISTING of a file, as one function from its bytes to the text's (document 01, "Frame file and listing"). Definitions only.
 use Prim.Native.Nat.{ℕ, suc}
+use mathlib.Core.Path.{_≡_}
 use mathlib.Core.List.{List, [], _∷_, _++_}
 use lib.IntN.{ℤ}
 use lib.ListN.{length, drop, replicate}
@@ -32,6 +33,10 @@ measured ch x = ms.measures (ch .config) (ms.lent (framed ch x .0 .lines) (zeros
 -- the flag, the loudest band at that configuration and the new channel; where the loudest band is refused the answer beside the refusal is quiet
 unfoldable pub listened : Channel → List ℤ → Listened
 listened ch x = record { flag = measured ch x .flag; loudest = heard (ch .config) (measured ch x .energies) .loudest; channel = framed ch x .1 }
+
+-- the same, with what the call leaves in the rooms that are lent for lines, energies and peaks
+abbrev pub ListenedIn : Channel → List ℤ → Listened → List Float → List Float → List ℕ → Type 0
+ListenedIn ch x r lines energies peaks = (r ≡ listened ch x) × (lines ≡ framed ch x .0 .lines) × (energies ≡ measured ch x .energies) × (peaks ≡ measured ch x .peaks)
 
 -- the line of frame number n
 abbrev pub lineOf : ℕ → Listened → List ℕ

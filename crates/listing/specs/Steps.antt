@@ -85,9 +85,9 @@ written (suc most) s f = elim (eqb (s .used) 0) [
 ]
 
 -- how many whole frames a file holds
-abbrev pub held : Header → List ℕ → ℕ
-held (Good version c) f = length (contents c (drop 6 f) .frames)
-held Short f = 0
-held Unmarked f = 0
-held Foreign f = 0
-held Unknown f = 0
+abbrev pub wholeFrames : Header → List ℕ → ℕ
+wholeFrames (Good version c) f = length (contents c (drop 6 f) .frames)
+wholeFrames Short f = 0
+wholeFrames Unmarked f = 0
+wholeFrames Foreign f = 0
+wholeFrames Unknown f = 0

@@ -1,8 +1,8 @@
 -- The lines of a listing as bytes (document 01, "Frame file and listing"). Every line ends with a newline. Definitions only.
 use Prim.Native.Nat.{ℕ}
-use mathlib.Core.Bool.{Bool, cond}
+use mathlib.Core.Bool.{Bool}
 use mathlib.Core.List.{List, [], _∷_, _++_}
-use Rattle.plain_text.specs.Text.{space, newline, decimal}
+use Rattle.plain_text.specs.Text.{space, newline, digit, decimal}
 use Rattle.frame_file.specs.File.{lmf}
 use Rattle.loudest.specs.declared.Loudest.{Loudest}
 use Rattle.loudest.specs.declared.Loudest.the-variants.{Quiet, Loud}
@@ -10,10 +10,6 @@ use Rattle.loudest.specs.declared.Loudest.the-variants.{Quiet, Loud}
 -- "`LMF`, version and configuration"
 unfoldable pub firstLine : ℕ → ℕ → List ℕ
 firstLine version config = lmf ++ space ++ decimal version ++ space ++ decimal config ++ newline
-
--- "flag (0 or 1)"
-abbrev pub digit : Bool → ℕ
-digit flag = cond flag 0x31 0x30
 
 -- "loudest band, which is named only when a loudest band exists, else `-`"
 abbrev pub band : Loudest → List ℕ

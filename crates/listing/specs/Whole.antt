@@ -8,11 +8,11 @@ use Rattle.config.specs.Config.{valid}
 use Rattle.frame_file.specs.File.{lmf, headerOf, frameBytes}
 use Rattle.listing.specs.declared.Lister.{Lister}
 use Rattle.listing.specs.Listing.{listing}
-use Rattle.listing.specs.Steps.{opening, step, written, held}
+use Rattle.listing.specs.Steps.{opening, step, written, wholeFrames}
 
 pub record Listed : Type 0 where
   -- the header's line, a line for each record and the last line together are `listing` of the file, for any file of fewer than 2^64 frames
-  pub listing-is : (f : List ℕ) → held (headerOf lmf f) f < 2 ^ 64 → written (suc (length f)) (opening f) f ≡ listing f
+  pub listing-is : (f : List ℕ) → wholeFrames (headerOf lmf f) f < 2 ^ 64 → written (suc (length f)) (opening f) f ≡ listing f
   -- a step reads no more than its frame's bytes: handed these alone it gives what it gives on all that is left of the file
   pub step-reads : (l : Lister) (f : List ℕ) → T (valid (l .channel .config)) → step l (take (frameBytes (l .channel .config)) f) ≡ step l f
   -- the header's step reads no more than six

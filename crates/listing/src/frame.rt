@@ -5,7 +5,7 @@ ghost use lib.IntN.{pos};
 ghost use lib.ListN.{length, replicate};
 ghost use Rattle.config.specs.Config.{valid, nf, nb};
 ghost use Rattle.frame_file.specs.File.{samples, frameBytes};
-ghost use Rattle.listing.specs.Listing.{zeros, framed, measured, listened};
+ghost use Rattle.listing.specs.Listing.{zeros, listened, ListenedIn};
 use analysis::Channel;
 use loudest::Loudest;
 
@@ -52,8 +52,7 @@ fn listen_in(
     peaks: &mut [usize],
 ) -> Listened
     requires { ⌜ (now lines ≡ zeros (nf (channel .config))) × (now energies ≡ zeros (nb (channel .config))) × (now peaks ≡ replicate (nb (channel .config)) 0) ⌝ }
-    ensures { λ r. ⌜ (r ≡ listened channel (now (input .entry))) × (now (lines .exit) ≡ framed channel (now (input .entry)) .0 .lines)
-        × (now (energies .exit) ≡ measured channel (now (input .entry)) .energies) × (now (peaks .exit) ≡ measured channel (now (input .entry)) .peaks) ⌝ }
+    ensures { λ r. ⌜ ListenedIn channel (now (input .entry)) r (now (lines .exit)) (now (energies .exit)) (now (peaks .exit)) ⌝ }
 {
     let config = channel.config;
     let framed = channel.frame(input, lines);

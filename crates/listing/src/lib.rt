@@ -8,7 +8,7 @@ ghost use lib.ListN.{length};
 ghost use Rattle.config.specs.Config.{valid, nf};
 ghost use Rattle.frame_file.specs.File.{samples, frameBytes};
 ghost use Rattle.plain_text.specs.Text.{newline, decimal};
-ghost use Rattle.listing.specs.Text.{firstLine, digit, frameLine, endLine, refusedLine};
+ghost use Rattle.listing.specs.Text.{firstLine, frameLine, endLine, refusedLine};
 ghost use Rattle.listing.specs.Listing.{listened};
 ghost use Rattle.listing.specs.Steps.{text, start, opening, counted, framed, step};
 
@@ -63,17 +63,11 @@ fn refused_line(number: u8) -> Text
     worded(b"refused ", number as u64)
 }
 
-fn digit(flag: bool) -> u8
-    ensures { λ r. ⌜ r ≡ digit flag ⌝ }
-{
-    if flag { b'1' } else { b'0' }
-}
-
 // A frame's line: its number, flag and loudest band, or a dash where there is none.
 fn frame_line(n: u64, flag: bool, loudest: Loudest) -> Text
     ensures { λ r. ⌜ r ≡ text (frameLine n flag loudest) ⌝ }
 {
-    let between = [b' ', digit(flag), b' '];
+    let between = [b' ', plain_text::digit(flag), b' '];
     let t = line::blank().numbered(n, &between);
     let Loudest::Loud(band, _) = loudest else {
         return t.with_bytes(b"-\n");

@@ -14,7 +14,7 @@ use Rattle.frame_file.specs.File.{frameBytes}
 use Rattle.listing.specs.declared.Lister.{Lister}
 use Rattle.listing.specs.Steps.{step}
 use Rattle.lmf_list.specs.declared.Input.{Input}
-use Rattle.lmf_list.specs.declared.Turn.{Turn}
+use Rattle.lmf_list.specs.declared.ReadStep.{ReadStep}
 use Rattle.lmf_list.specs.Reading.{brought, Came, Filled, Next}
 
 -- a read of n bytes to the places from `at` on
@@ -29,7 +29,7 @@ module _ (before after : List ℕ) (at n : ℕ) (r : Input) where
       let l : length (midOf at (length after - at) after) ≡ length after - at = ap length (mid-tail at after) ∙ length-drop at after in
       subst (λ (r : Input). Came before at r after) (sym e) (record { from = omega arith; within = omega arith; stays = t; more = refl; failed = λ q. absurd (true≢false q) })
 
--- what is left of n places, and one turn more where more may come
+-- what is left of n places, and one read more where more may come
 abbrev pub left : ℕ → Input → ℕ
 left n r = (n - r .len) + cond (r .more) 1 0
 
@@ -46,7 +46,7 @@ pub filled : (r : Input) (buf : List ℕ) → r .len ≤ length buf → (r .more
 filled r buf h g = record { counts = (h, simp length-take (omega arith)); full = λ q. let l = g q in omega arith }
 
 -- the front of a room is filled for a step, and the rest of it stands behind
-pub next-step : (l : Lister) (r : Turn) (part rest : List ℕ) → length part ≡ frameBytes (l .channel .config)
+pub next-step : (l : Lister) (r : ReadStep) (part rest : List ℕ) → length part ≡ frameBytes (l .channel .config)
     → (r .stepped ≡ step l (take (r .input .len) part)) × Filled (r .input) part → Next l r (part ++ rest)
 next-step l r part rest e (s, f) =
     record {

@@ -10,7 +10,7 @@ use Rattle.frame_file.specs.File.{frameBytes}
 use Rattle.listing.specs.declared.Lister.{Lister}
 use Rattle.listing.specs.Steps.{step}
 use Rattle.lmf_list.specs.declared.Input.{Input}
-use Rattle.lmf_list.specs.declared.Turn.{Turn}
+use Rattle.lmf_list.specs.declared.ReadStep.{ReadStep}
 
 -- what a read has brought that put bytes to the places from `at` to `end`, or failed: only a read of nothing ends the input
 unfoldable pub brought : ℕ → ℕ → Bool → Input
@@ -37,7 +37,7 @@ pub record Filled (r : Input) (after : List ℕ) : Type 0 where
   pub full : r .more ≡ true → r .len ≡ length after
 
 -- a record's step, on bytes that were read to the front of a room
-pub record Next (l : Lister) (r : Turn) (room : List ℕ) : Type 0 where
+pub record Next (l : Lister) (r : ReadStep) (room : List ℕ) : Type 0 where
   -- it is handed those of the room that were read, and no others
   pub stepped : r .stepped ≡ step l (take (r .input .len) room)
   -- no more than a frame's, so that the next frame is not touched

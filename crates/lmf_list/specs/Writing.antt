@@ -37,4 +37,4 @@ pub record Ended (r : Ending) (after : List ℕ) : Type 0 where
   -- what still waits is a part of the buffer
   pub within : r .output .len ≤ length after
   -- where its reads and writes went well it ends with its last line, for which no bytes were used, or with as many frames as can be counted
-  pub last : r .turn .input .ok ≡ true → r .output .ok ≡ true → (r .turn .stepped .used ≡ 0) ⊎ (r .turn .stepped .lister .count ≡ 2 ^ 64 - 1)
+  pub last : r .step .input .ok ≡ true → r .output .ok ≡ true → (r .step .stepped .used ≡ 0) ⊎ (r .step .stepped .lister .count ≡ 2 ^ 64 - 1)

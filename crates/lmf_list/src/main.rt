@@ -24,14 +24,14 @@ struct Output {
 }
 
 // A step of the listing, and what was read for it.
-struct Turn {
+struct ReadStep {
     stepped: Stepped,
     input: Input,
 }
 
 // How a listing ended: the step that was its last, and what still waits to be written.
 struct Ending {
-    turn: Turn,
+    step: ReadStep,
     output: Output,
 }
 
@@ -118,27 +118,27 @@ fn emit(out: &mut [u8], n: usize, text: Text) -> Output
 }
 
 // The header's step, on as much as there is of it.
-fn open(header: &mut [u8]) -> Turn
+fn open(header: &mut [u8]) -> ReadStep
     ensures { λ r. ⌜ (r .stepped ≡ steps.opening (take (r .input .len) (now (header .exit)))) × Filled (r .input) (now (header .exit)) ⌝ }
 {
     let input = fill(header);
     let got = input.len;
     let stepped = listing::open(&header[..got]);
-    Turn { stepped, input }
+    ReadStep { stepped, input }
 }
 
 // A record's step, on as much as there is of it.
-fn step(lister: Lister, frame: &mut [u8]) -> Turn
+fn step(lister: Lister, frame: &mut [u8]) -> ReadStep
     ensures { λ r. ⌜ (r .stepped ≡ steps.step lister (take (r .input .len) (now (frame .exit)))) × Filled (r .input) (now (frame .exit)) ⌝ }
 {
     let input = fill(frame);
     let got = input.len;
     let stepped = lister.step(&frame[..got]);
-    Turn { stepped, input }
+    ReadStep { stepped, input }
 }
 
 // The next record's step, on no more than a frame's bytes.
-fn next(lister: Lister, room: &mut [u8]) -> Turn
+fn next(lister: Lister, room: &mut [u8]) -> ReadStep
     requires { ⌜ 960 ≤ length (now room) ⌝ }
     ensures { λ r. ⌜ Next lister r (now (room .exit)) ⌝ }
 {
@@ -153,10 +153,10 @@ fn lines(out: &mut [u8]) -> Ending
 {
     let mut header = [0u8; 6];
     let mut room = [0u8; 960]; // the longest frame's bytes
-    let mut turn = open(&mut header);
+    let mut step = open(&mut header);
     let mut output = Output { len: 0, ok: true };
-    while turn.input.ok && output.ok {
-        let stepped = turn.stepped;
+    while step.input.ok && output.ok {
+        let stepped = step.stepped;
         let text = stepped.text;
         let n = output.len;
         output = emit(out, n, text);
@@ -164,9 +164,9 @@ fn lines(out: &mut [u8]) -> Ending
         if stepped.used == 0 || lister.count == u64::MAX {
             break;
         }
-        turn = next(lister, &mut room);
+        step = next(lister, &mut room);
     }
-    Ending { turn, output }
+    Ending { step, output }
 }
 
 // A read that fails is told on standard error and ends the listing with no last line; after a write that failed, which is told there too, nothing more is written.

@@ -1,6 +1,6 @@
 -- What lines of text are made of, as bytes. Definitions only.
 use Prim.Native.Nat.{ℕ, zero, suc, _+_, _/_, _%_}
-use mathlib.Core.Bool.{true, false}
+use mathlib.Core.Bool.{Bool, true, false, cond}
 use mathlib.Core.List.{List, [], _∷_, _++_}
 use lib.Dec.{ltb}
 
@@ -9,6 +9,10 @@ space = 0x20 ∷ []
 
 abbrev pub newline : List ℕ
 newline = 0x0a ∷ []
+
+-- a flag, "0 or 1"
+abbrev pub digit : Bool → ℕ
+digit flag = cond flag 0x31 0x30
 
 -- decimal, no leading zeros: the last digit after those of the tenth part. A number has fewer digits than one more than itself.
 unfoldable pub spelled : ℕ → ℕ → List ℕ

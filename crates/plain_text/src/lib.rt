@@ -1,2 +1,11 @@
-// What lines of text are made of: a space, a newline, a number in decimal. It has no code of its own: the definitions are in specs/, and the laws
-// that the kit's `io::decimal` writes such a number in proofs/. New in this port.
+// What lines of text are made of: a space, a newline, a flag as a digit, a number in decimal, whose laws, that the kit's `io::decimal` writes it, are in
+// proofs/. New in this port.
+ghost use mathlib.Core.Path.{_≡_};
+ghost use Rattle.plain_text.specs.Text.{digit};
+
+// A flag as a digit.
+pub fn digit(flag: bool) -> u8
+    ensures { λ r. ⌜ r ≡ digit flag ⌝ }
+{
+    if flag { b'1' } else { b'0' }
+}

@@ -33,7 +33,7 @@ use Rattle.synthesis.specs.Synthesis as synthesisCalls
 use Rattle.synthesis.proofs.Frames as synthesisFrames
 use Rattle.frame_file.specs.declared.Record.{Record}
 use Rattle.frame_file.specs.declared.Record.the-variants.{Frame, End, Cut, Astray}
-use Rattle.frame_file.specs.File.{short, signed, samples, recordOf, Contents, ended, more, reading, contents}
+use Rattle.frame_file.specs.File.{shortAt, signed, samples, recordOf, Contents, ended, more, reading, contents}
 use Rattle.listing.specs.Listing.{zeros as zeros32}
 use Rattle.loudest.specs.Loudest.{heard, paper}
 use Rattle.bounds.specs.Within as within
@@ -139,7 +139,7 @@ Whole c x = (length x ≡ nf c) × Each Sample x
 
 decoded : (c : ℕ) (f : List ℕ) → Whole c (samples (nf c) f)
 unfolding samples
-decoded c f = (length-tab (nf c) _, each-tab (nf c) _ (λ k l. sample-signed (short f (2 * k))))
+decoded c f = (length-tab (nf c) _, each-tab (nf c) _ (λ k l. sample-signed (shortAt f (2 * k))))
 
 whole-frames : (most c : ℕ) (f : List ℕ) → Each (Whole c) (reading most c f .frames)
 unfolding reading

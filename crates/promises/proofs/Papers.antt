@@ -18,9 +18,9 @@ use Rattle.laws.proofs.Lists.{first-none}
 use Rattle.config.specs.Config.{largest, nf, nb}
 use Rattle.config.proofs.Sound.{sound}
 use Rattle.loudest.specs.Loudest.{silent, loudest, heard}
-use Rattle.frame_file.specs.File.{lmf, byte, short, marked, headerOf, recordOf}
+use Rattle.frame_file.specs.File.{byte, shortAt, short, marked, headerOf, recordOf}
 use Rattle.call_log.specs.Log as log
-use Rattle.promises.specs.Papers.{lmc, Papers}
+use Rattle.promises.specs.Papers.{Papers}
 
 -- a zero passes 7
 zero-passes : (x : Float) → silent x ≡ true → passes7 x ≡ true
@@ -30,49 +30,31 @@ zero-passes (inf s) e = absurd (true≢false (sym e))
 zero-passes (fin true m e) h = h
 zero-passes (fin false m e) h = refl
 
--- ---- a mark of three bytes, byte by byte as the definitions test it, and as the first three bytes of the file
-module _ (x y z : ℕ) where
-  abbrev tested : List ℕ → Bool
-  tested f = eqb (byte f 0) x && (eqb (byte f 1) y && eqb (byte f 2) z)
-
-  is-marked : (f : List ℕ) → take 3 f ≡ x ∷ y ∷ z ∷ [] → tested f ≡ true
-  is-marked f e = rw (at 0 (omega arith), at 1 (omega arith), at 2 (omega arith))
-    where
-      at : (k : ℕ) → k < 3 → eqb (byte f k) (byte (x ∷ y ∷ z ∷ []) k) ≡ true
-      at k h = eq-eqb (byte f k) _ (sym (getD-take 3 f k 0 h) ∙ ap (λ (l : List ℕ). getD l k 0) e)
-
-  marks : (f : List ℕ) → 3 ≤ length f → T (tested f) → take 3 f ≡ x ∷ y ∷ z ∷ []
-  marks [] h t = absurd (omega arith)
-  marks (a ∷ []) h t = absurd (omega arith)
-  marks (a ∷ b ∷ []) h t = absurd (omega arith)
-  marks (a ∷ b ∷ c ∷ f) h t =
-      let u = and-r (eqb a x) (eqb b y && eqb c z) t in
-      let p : a ≡ x = eqb→eq a x (and-l (eqb a x) (eqb b y && eqb c z) t) in
-      let q : b ≡ y = eqb→eq b y (and-l (eqb b y) (eqb c z) u) in
-      let r : c ≡ z = eqb→eq c z (and-r (eqb b y) (eqb c z) u) in
-      cc
-
-  not-marked : (f : List ℕ) → 3 ≤ length f → (take 3 f ≡ x ∷ y ∷ z ∷ [] → ⊥) → tested f ≡ false
-  not-marked f h n = ⊎-elim (λ t. absurd (n (marks f h (subst T (sym t) tt)))) (λ e. e) (outcomes (tested f))
-
-lmf-is : (f : List ℕ) → take 3 f ≡ lmf → marked lmf f ≡ true
+-- ---- a mark of three bytes, byte by byte as the definition tests it, and as the first three bytes of the file
+is-marked : (x y z : ℕ) (f : List ℕ) → take 3 f ≡ x ∷ y ∷ z ∷ [] → marked (x ∷ y ∷ z ∷ []) f ≡ true
 unfolding marked
-lmf-is = is-marked 0x4c 0x4d 0x46
+is-marked x y z f e = rw (at 0 (omega arith), at 1 (omega arith), at 2 (omega arith))
+  where
+    at : (k : ℕ) → k < 3 → eqb (byte f k) (byte (x ∷ y ∷ z ∷ []) k) ≡ true
+    at k h = eq-eqb (byte f k) _ (sym (getD-take 3 f k 0 h) ∙ ap (λ (l : List ℕ). getD l k 0) e)
 
-lmf-not : (f : List ℕ) → 6 ≤ length f → (take 3 f ≡ lmf → ⊥) → marked lmf f ≡ false
+marks : (x y z : ℕ) (f : List ℕ) → 3 ≤ length f → T (marked (x ∷ y ∷ z ∷ []) f) → take 3 f ≡ x ∷ y ∷ z ∷ []
 unfolding marked
-lmf-not f h = not-marked 0x4c 0x4d 0x46 f (omega arith)
+marks x y z [] h t = absurd (omega arith)
+marks x y z (a ∷ []) h t = absurd (omega arith)
+marks x y z (a ∷ b ∷ []) h t = absurd (omega arith)
+marks x y z (a ∷ b ∷ c ∷ f) h t =
+    let u = and-r (eqb a x) (eqb b y && eqb c z) t in
+    let p : a ≡ x = eqb→eq a x (and-l (eqb a x) (eqb b y && eqb c z) t) in
+    let q : b ≡ y = eqb→eq b y (and-l (eqb b y) (eqb c z) u) in
+    let r : c ≡ z = eqb→eq c z (and-r (eqb b y) (eqb c z) u) in
+    cc
 
-lmc-is : (f : List ℕ) → take 3 f ≡ lmc → log.marked f ≡ true
-unfolding log.marked
-lmc-is = is-marked 0x4c 0x4d 0x43
-
-lmc-not : (f : List ℕ) → 5 ≤ length f → (take 3 f ≡ lmc → ⊥) → log.marked f ≡ false
-unfolding log.marked
-lmc-not f h = not-marked 0x4c 0x4d 0x43 f (omega arith)
+not-marked : (x y z : ℕ) (f : List ℕ) → 3 ≤ length f → (take 3 f ≡ x ∷ y ∷ z ∷ [] → ⊥) → marked (x ∷ y ∷ z ∷ []) f ≡ false
+not-marked x y z f h n = ⊎-elim (λ t. absurd (n (marks x y z f h (subst T (sym t) tt)))) (λ e. e) (outcomes (marked (x ∷ y ∷ z ∷ []) f))
 
 -- the version as the log's definition reads it
-version : (b : List ℕ) → log.short (drop 3 b) ≡ short b 3
+version : (b : List ℕ) → short (drop 3 b) ≡ shortAt b 3
 version b = rw (getD-drop 3 b 0 0, getD-drop 3 b 1 0)
 
 pub papers : Papers
@@ -91,10 +73,10 @@ papers =
           );
       loud = λ c l v n p z. rw (le-leb c largest v, eq-eqb (length l) (nb c) n, eq-eqb (first passes7 l) (length l) p, ne-eqb (first silent l) (length l) (λ e. omega arith));
       short-file = λ f h. rw (lt-ltb (length f) 6 h);
-      bad-mark = λ f h n. rw (le-ltb (length f) 6 h, lmf-not f h n);
-      bad-version = λ f h e n. rw (le-ltb (length f) 6 h, lmf-is f e, ne-eqb (short f 3) 1 n);
-      bad-config = λ f h e v c. rw (le-ltb (length f) 6 h, lmf-is f e, eq-eqb (short f 3) 1 v, lt-leb (byte f 5) largest c);
-      good = λ f h e v c. rw (le-ltb (length f) 6 h, lmf-is f e, eq-eqb (short f 3) 1 v, le-leb (byte f 5) largest c, v);
+      bad-mark = λ f h n. rw (le-ltb (length f) 6 h, not-marked _ _ _ f (omega arith) n);
+      bad-version = λ f h e n. rw (le-ltb (length f) 6 h, is-marked _ _ _ f e, ne-eqb (shortAt f 3) 1 n);
+      bad-config = λ f h e v c. rw (le-ltb (length f) 6 h, is-marked _ _ _ f e, eq-eqb (shortAt f 3) 1 v, lt-leb (byte f 5) largest c);
+      good = λ f h e v c. rw (le-ltb (length f) 6 h, is-marked _ _ _ f e, eq-eqb (shortAt f 3) 1 v, le-leb (byte f 5) largest c, v);
       at-end = λ c v. rw (le-leb c largest v);
       cut = λ c f v some few. rw (le-leb c largest v, ne-eqb (length f) 0 (λ e. omega arith), lt-ltb (length f) (2 * nf c) few);
       whole = λ c f v room.
@@ -102,9 +84,9 @@ papers =
           rw (le-leb c largest v, ne-eqb (length f) 0 (λ e. omega (arith, s .even, s .half-pos)), le-ltb (length f) (2 * nf c) room);
       astray = λ c f v. rw (lt-leb c largest v);
       short-log = λ b h. rw (lt-ltb (length b) 5 h);
-      bad-log-mark = λ b h n. rw (le-ltb (length b) 5 h, lmc-not b h n);
-      bad-log-version = λ b h e n. rw (le-ltb (length b) 5 h, lmc-is b e, version b, ne-eqb (short b 3) 3 n);
-      good-log = λ b h e v. rw (le-ltb (length b) 5 h, lmc-is b e, version b, eq-eqb (short b 3) 3 v);
+      bad-log-mark = λ b h n. rw (le-ltb (length b) 5 h, not-marked _ _ _ b (omega arith) n);
+      bad-log-version = λ b h e n. rw (le-ltb (length b) 5 h, is-marked _ _ _ b e, version b, ne-eqb (shortAt b 3) 3 n);
+      good-log = λ b h e v. rw (le-ltb (length b) 5 h, is-marked _ _ _ b e, version b, eq-eqb (shortAt b 3) 3 v);
       whole-call = λ c b. rw (le-leb 1 (length (c ∷ b)) (omega arith));
       cut-call = refl;
     }

@@ -115,6 +115,8 @@ use Rattle.synthesis.proofs.Channel.frame as synthesis-frame
 use Rattle.synthesis.proofs.frame_at as synthesis-frame-at
 use Rattle.loudest.proofs.loudest_band
 use Rattle.near_nyquist.proofs.near_nyquist
+use Rattle.plain_text.proofs.digit
+use Rattle.frame_file.proofs.join
 use Rattle.frame_file.proofs.read_header
 use Rattle.frame_file.proofs.header_number
 use Rattle.frame_file.proofs.read_record
@@ -127,6 +129,7 @@ use Rattle.listing.proofs.line.Text.size
 use Rattle.call_log.proofs.byte_at
 use Rattle.call_log.proofs.rest
 use Rattle.call_log.proofs.short
+use Rattle.call_log.proofs.word
 use Rattle.call_log.proofs.count
 use Rattle.call_log.proofs.count_floats
 use Rattle.call_log.proofs.count_samples
@@ -315,7 +318,10 @@ pub record Entries (w : World) : Type 1 where
   pub loudest-band : Entry w loudest_band.ended loudest_band.clauses
   -- near_nyquist
   pub near-nyquist : Entry w near_nyquist.ended near_nyquist.clauses
+  -- plain_text
+  pub digit : Entry w digit.ended digit.clauses
   -- frame_file
+  pub join : Entry w join.ended join.clauses
   pub read-header : Entry w read_header.ended read_header.clauses
   pub header-number : Entry w header_number.ended header_number.clauses
   pub read-record : Entry w read_record.ended read_record.clauses
@@ -331,6 +337,7 @@ pub record Entries (w : World) : Type 1 where
   -- the bytes of the slice that is returned; where they lie is not said
   pub rest : AsksNothing w rest.ended rest.clauses × OneAnswerOf w rest.ended rest.clauses (λ κs a. List ℕ) (λ κs a x. now (x .0))
   pub short : Entry w short.ended short.clauses
+  pub word : Entry w word.ended word.clauses
   pub count : Entry w count.ended count.clauses
   pub count-floats : Entry w count_floats.ended count_floats.clauses
   pub count-samples : Entry w count_samples.ended count_samples.clauses

@@ -11,8 +11,9 @@ use Rattle.config.specs.Config.{largest, nf, nb, edges}
 use Rattle.refusals.specs.Refusals.{accepted, badConfig, badEnergies, badEnergy, shortFile, badMark, badVersion, cutFrame}
 use Rattle.laws.specs.Greatest.{best}
 use Rattle.loudest.specs.Loudest.{products, silent, heard, ofLoud, ofQuiet, ofRefusal, paper}
-use Rattle.frame_file.specs.File.{lmf, byte, short, headerOf, recordOf}
+use Rattle.frame_file.specs.File.{lmf, byte, shortAt, headerOf, recordOf}
 use Rattle.frame_file.specs.Paper.{Paper, headerPaper, recordPaper}
+use Rattle.call_log.specs.Log.{lmc}
 use Rattle.call_log.specs.Log as log
 use Rattle.call_log.specs.Paper as logPaper
 
@@ -31,10 +32,6 @@ ofLog b = logPaper.headerPaper (log.headerOf b)
 -- how many bytes the call at their front is said to take
 abbrev pub ofCall : List ℕ → List ℕ
 ofCall b = logPaper.takenValues (log.callTaken b)
-
--- `LMC`
-abbrev pub lmc : List ℕ
-lmc = 0x4c ∷ 0x4d ∷ 0x43 ∷ []
 
 -- a number and no values
 abbrev pub alone : ℕ → Paper
@@ -61,11 +58,11 @@ pub record Papers : Type 0 where
   -- 6 bytes or more, the first three not `LMF`: 9
   pub bad-mark : (f : List ℕ) → 6 ≤ length f → (take 3 f ≡ lmf → ⊥) → ofFile f ≡ alone badMark
   -- `LMF`, and a version that is not 1: 10
-  pub bad-version : (f : List ℕ) → 6 ≤ length f → take 3 f ≡ lmf → (short f 3 ≡ 1 → ⊥) → ofFile f ≡ alone badVersion
+  pub bad-version : (f : List ℕ) → 6 ≤ length f → take 3 f ≡ lmf → (shortAt f 3 ≡ 1 → ⊥) → ofFile f ≡ alone badVersion
   -- `LMF` of version 1, and a configuration above the largest: 1
-  pub bad-config : (f : List ℕ) → 6 ≤ length f → take 3 f ≡ lmf → short f 3 ≡ 1 → largest < byte f 5 → ofFile f ≡ alone badConfig
+  pub bad-config : (f : List ℕ) → 6 ≤ length f → take 3 f ≡ lmf → shortAt f 3 ≡ 1 → largest < byte f 5 → ofFile f ≡ alone badConfig
   -- else 0, with version 1 and the configuration byte
-  pub good : (f : List ℕ) → 6 ≤ length f → take 3 f ≡ lmf → short f 3 ≡ 1 → byte f 5 ≤ largest → ofFile f ≡ beside (1 ∷ byte f 5 ∷ [])
+  pub good : (f : List ℕ) → 6 ≤ length f → take 3 f ≡ lmf → shortAt f 3 ≡ 1 → byte f 5 ≤ largest → ofFile f ≡ beside (1 ∷ byte f 5 ∷ [])
   -- no bytes left of a file: 0 and no value, its end
   pub at-end : (c : ℕ) → c ≤ largest → ofRest c [] ≡ alone accepted
   -- some left, but fewer than a frame's 2 nf: 11
@@ -79,9 +76,9 @@ pub record Papers : Type 0 where
   -- 5 bytes or more, the first three not `LMC`: 9
   pub bad-log-mark : (b : List ℕ) → 5 ≤ length b → (take 3 b ≡ lmc → ⊥) → ofLog b ≡ alone badMark
   -- `LMC`, and a version that is not 3: 10
-  pub bad-log-version : (b : List ℕ) → 5 ≤ length b → take 3 b ≡ lmc → (short b 3 ≡ 3 → ⊥) → ofLog b ≡ alone badVersion
+  pub bad-log-version : (b : List ℕ) → 5 ≤ length b → take 3 b ≡ lmc → (shortAt b 3 ≡ 3 → ⊥) → ofLog b ≡ alone badVersion
   -- else 0, and no value
-  pub good-log : (b : List ℕ) → 5 ≤ length b → take 3 b ≡ lmc → short b 3 ≡ 3 → ofLog b ≡ alone accepted
+  pub good-log : (b : List ℕ) → 5 ≤ length b → take 3 b ≡ lmc → shortAt b 3 ≡ 3 → ofLog b ≡ alone accepted
   -- a clear takes its kind and its configuration
   pub whole-call : (c : ℕ) (b : List ℕ) → ofCall (1 ∷ c ∷ b) ≡ 2 ∷ []
   -- cut after its kind it is stopped

@@ -5,7 +5,7 @@ ghost use Prim.Native.Nat.{_≤_};
 ghost use mathlib.Core.Path.{_≡_};
 ghost use lib.ListN.{length};
 ghost use Rattle.call_text.specs.Page.{page, written};
-ghost use Rattle.replay.specs.Held.{Held};
+ghost use Rattle.replay.specs.Unused.{Unused};
 ghost use Rattle.replay.specs.Steps.{answerText, madeText, lastText, takenOf, usedOf, benchAfter, stepped};
 use call_log::Taken;
 use call_made::Answer;
@@ -143,20 +143,20 @@ fn to_front(input: &mut [u8], from: usize, to: usize) -> usize
     n
 }
 
-// The input with a longest call held, or all that is left.
+// The input with a longest call in it, or all that is left.
 fn ready(input: &mut [u8], at: Input) -> Input
-    requires { ⌜ Held (at .from) (at .to) (length (now input)) ⌝ }
-    ensures { λ r. ⌜ Held (r .from) (r .to) (length (now (input .exit))) ⌝ }
+    requires { ⌜ Unused (at .from) (at .to) (length (now input)) ⌝ }
+    ensures { λ r. ⌜ Unused (r .from) (r .to) (length (now (input .exit))) ⌝ }
 {
     if at.is_over || LONGEST <= at.to - at.from {
         return at;
     }
-    let held = to_front(input, at.from, at.to);
-    let room = &mut input[held..];
+    let kept = to_front(input, at.from, at.to);
+    let room = &mut input[kept..];
     let n = io::read_full(STDIN_FILENO, room);
     Input {
         from: 0,
-        to: held + n,
+        to: kept + n,
         is_over: n < room.len(),
     }
 }
@@ -191,18 +191,18 @@ fn room(out: &[u8], at: usize) -> usize {
 
 // The calls after the header, one after the other, as long as they can be counted. How far the output is filled.
 fn calls(input: &mut [u8], out: &mut [u8], header: Input) -> usize
-    requires { ⌜ Held (header .from) (header .to) (length (now input)) ⌝ }
+    requires { ⌜ Unused (header .from) (header .to) (length (now input)) ⌝ }
 {
-    let mut held = header;
+    let mut unused = header;
     let mut bench = call_made::fresh();
     let mut at = 0;
     let mut count = 0u64;
     while count < u64::MAX {
-        held = ready(input, held);
-        let from = held.from;
-        let to = held.to;
+        unused = ready(input, unused);
+        let from = unused.from;
+        let to = unused.to;
         let step = step(bench, &input[from..to], out, at, count);
-        held.from = from + step.used;
+        unused.from = from + step.used;
         bench = step.bench;
         if step.used == 0 {
             return step.at;

@@ -12,17 +12,8 @@ Inv-loop fd c a₀ s₀ w₀ k₀ a s w k = Unit {0}
 abbrev μ-loop : tie.MeasureT-loop
 μ-loop fd c a₀ s₀ w₀ k₀ a s w k = 5 - k
 
-clear-requires : tie.Need-clear-requires Inv-loop μ-loop
-clear-requires c κs = search needs
-
-clear-requires-2 : tie.Need-clear-requires-2 Inv-loop μ-loop
-clear-requires-2 c κs = search needs
-
 loop-holds : tie.Need-loop-holds Inv-loop μ-loop
 loop-holds c = tt
-
-step-requires : tie.Need-step-requires Inv-loop μ-loop
-step-requires c κs = search needs
 
 add-k : tie.Need-add-k Inv-loop μ-loop
 add-k c = omega arith
@@ -38,4 +29,4 @@ returns c = tt
 
 pub configuration-spec : {M : Type 1} → statement M
 configuration-spec =
-    tie.close (tie.spec Inv-loop μ-loop clear-requires clear-requires-2 loop-holds step-requires add-k loop-less loop-again returns)
+    tie.close (tie.spec Inv-loop μ-loop (λ c κs. search needs) (λ c κs. search needs) loop-holds (λ c κs. search needs) add-k loop-less loop-again returns)

@@ -16,14 +16,8 @@ abbrev μ-loop : tie.MeasureT-loop
 loop-holds : tie.Need-loop-holds Inv-loop μ-loop
 loop-holds c = tt
 
-valid-requires : tie.Need-valid-requires Inv-loop μ-loop
-valid-requires c κs = search needs
-
 configuration-requires : tie.Need-configuration-requires Inv-loop μ-loop
 configuration-requires c κs = subst T (sym (sym (c .before .valid .ensures) ∙ c .if1 .taken)) tt
-
-report-requires : tie.Need-report-requires Inv-loop μ-loop
-report-requires c κs = search needs
 
 add-c : tie.Need-add-c Inv-loop μ-loop
 add-c c = omega arith
@@ -39,4 +33,4 @@ returns c = tt
 
 pub configurations-spec : {M : Type 1} → statement M
 configurations-spec =
-    tie.close (tie.spec Inv-loop μ-loop loop-holds valid-requires configuration-requires report-requires add-c loop-less loop-again returns)
+    tie.close (tie.spec Inv-loop μ-loop loop-holds (λ c κs. search needs) configuration-requires (λ c κs. search needs) add-c loop-less loop-again returns)

@@ -9,51 +9,6 @@ use borrow.Author.Needs.{needs}
 use Rattle.call_log.proofs.field_taken.Statement.{statement}
 use Rattle.call_log.proofs.field_taken.Tie as tie
 
-enum-told : tie.Need-enum-told
-enum-told c = search needs
-
-enum-told-2 : tie.Need-enum-told-2
-enum-told-2 c = search needs
-
-within-requires : tie.Need-within-requires
-within-requires c κs = search needs
-
-enum-told-3 : tie.Need-enum-told-3
-enum-told-3 c = search needs
-
-byte-at-requires : tie.Need-byte-at-requires
-byte-at-requires c κs = search needs
-
-within-requires-2 : tie.Need-within-requires-2
-within-requires-2 c κs = search needs
-
-enum-told-4 : tie.Need-enum-told-4
-enum-told-4 c = search needs
-
-within-requires-3 : tie.Need-within-requires-3
-within-requires-3 c κs = search needs
-
-enum-told-5 : tie.Need-enum-told-5
-enum-told-5 c = search needs
-
-listed-requires : tie.Need-listed-requires
-listed-requires c κs = search needs
-
-enum-known-field : tie.Need-enum-known-field
-enum-known-field c = search needs
-
-listed-requires-2 : tie.Need-listed-requires-2
-listed-requires-2 c κs = search needs
-
-enum-known-field-2 : tie.Need-enum-known-field-2
-enum-known-field-2 c = search needs
-
-listed-requires-3 : tie.Need-listed-requires-3
-listed-requires-3 c κs = search needs
-
-enum-told-6 : tie.Need-enum-told-6
-enum-told-6 c = search needs
-
 returns : tie.Need-returns
 unfolding fieldTaken
 returns c = sym (ap (fieldTaken (c .before .before .before .args .b .now)) (c .enum-told .given .1))
@@ -98,5 +53,6 @@ returns-9 c = sym (ap (fieldTaken (c .before .before .before .args .b .now)) (c 
 
 pub field-taken-spec : {M : Type 1} → statement M
 field-taken-spec =
-    tie.close (tie.spec enum-told enum-told-2 within-requires enum-told-3 byte-at-requires within-requires-2 enum-told-4 within-requires-3 enum-told-5 listed-requires enum-known-field
-    listed-requires-2 enum-known-field-2 listed-requires-3 enum-told-6 returns returns-2 returns-3 returns-4 returns-5 returns-6 returns-7 returns-8 returns-9)
+    tie.close (tie.spec (λ c. search needs) (λ c. search needs) (λ c κs. search needs) (λ c. search needs) (λ c κs. search needs) (λ c κs. search needs) (λ c. search needs) (λ c κs. search needs)
+    (λ c. search needs) (λ c κs. search needs) (λ c. search needs) (λ c κs. search needs) (λ c. search needs) (λ c κs. search needs) (λ c. search needs) returns returns-2 returns-3 returns-4 returns-5
+    returns-6 returns-7 returns-8 returns-9)

@@ -1,7 +1,8 @@
 -- `call_log::listed` meets its contract. The product fits, since a width is at most 4 and a count 16 bits. Assumes nothing.
 use mathlib.Core.Bool.{Bool}
 use lib.Dec.{leb}
-use Rattle.call_log.specs.Log.{short, pick, within}
+use Rattle.frame_file.specs.File.{short}
+use Rattle.call_log.specs.Log.{pick, within}
 use mathlib.Core.Path.{sym, ap, _∙_}
 use Prim.Native.Nat.{ℕ, _+_, _*_}
 use native.Mathlib.Nat.{mul-le-mul-right}
@@ -11,20 +12,11 @@ use borrow.Author.Needs.{needs}
 use Rattle.call_log.proofs.listed.Statement.{statement}
 use Rattle.call_log.proofs.listed.Tie as tie
 
-short-requires : tie.Need-short-requires
-short-requires c κs = search needs
-
-cast-n : tie.Need-cast-n
-cast-n c = search needs
-
 mul-within : tie.Need-mul-within
 mul-within c = omega (arith, mul-le-mul-right (c .before .short .result) (c .before .before .before .pre))
 
 add-within : tie.Need-add-within
 add-within c = omega (arith, mul-le-mul-right (c .before .short .result) (c .before .before .before .pre))
-
-within-requires : tie.Need-within-requires
-within-requires c κs = search needs
 
 returns : tie.Need-returns
 returns c =
@@ -42,5 +34,4 @@ returns-2 c =
 
 pub listed-spec : {M : Type 1} → statement M
 listed-spec =
-    tie.close
-    (tie.spec short-requires cast-n mul-within add-within within-requires returns returns-2)
+    tie.close (tie.spec (λ c κs. search needs) (λ c. search needs) mul-within add-within (λ c κs. search needs) returns returns-2)

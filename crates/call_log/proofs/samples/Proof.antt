@@ -6,7 +6,8 @@ use borrow.Author.Needs.{needs}
 use lib.ListN.{length}
 use lib.IntN.{pos}
 use Rattle.laws.proofs.Lists.{Filled, filled-none, filled-more, filled-all}
-use Rattle.call_log.specs.Log.{short, sampleOf}
+use Rattle.frame_file.specs.File.{short}
+use Rattle.call_log.specs.Log.{sampleOf}
 use Rattle.frame_file.specs.File.{signed}
 use Rattle.frame_file.proofs.Signed.{stored}
 use Rattle.call_log.proofs.samples.Statement.{statement}

@@ -1,34 +1,24 @@
 -- `call_made::clear_synthesis` meets its contract: the old channel stays where the clear is refused. Assumes nothing.
 use mathlib.Core.Path.{ap, _∙_}
+use mathlib.Core.Logic.{inl, inr, ⊎-elim}
+use borrow.Author.Needs.{needs}
 use Rattle.synthesis.specs.Synthesis.{cleared}
 use Rattle.synthesis.specs.declared.Cleared.{Cleared}
-use borrow.Author.Needs.{needs}
 use Rattle.call_made.specs.Made.{played, clearSynthesis}
-use Rattle.call_made.proofs.Answers.{new-is, old-is}
+use Rattle.call_made.proofs.Answers.{kept-is}
 use Rattle.call_made.proofs.clear_synthesis.Statement.{statement}
 use Rattle.call_made.proofs.clear_synthesis.Tie as tie
-
-byte-at-requires : tie.Need-byte-at-requires
-byte-at-requires c κs = search needs
-
-clear-requires : tie.Need-clear-requires
-clear-requires c κs = search needs
-
-plain-requires : tie.Need-plain-requires
-plain-requires c κs = search needs
 
 returns : tie.Need-returns
 unfolding clearSynthesis
 returns c =
     let s = c .before .before .before in
-    new-is played (λ (d : Cleared). d .number) (λ (d : Cleared). d .channel) (s .before .before .before .before .args .old) (s .before .clear .ensures ∙ ap cleared (s .before .before .byte-at .ensures)) (s .plain .ensures) (c .before .if1 .taken)
+    c .played-as .ensures ∙ kept-is played (λ (d : Cleared). d .number) (λ (d : Cleared). d .channel) (s .before .before .before .args .old) (s .clear .ensures ∙ ap cleared (s .before .byte-at .ensures))
+    (⊎-elim (λ w. inl (w .0 .taken, w .2)) (λ w. inr (w .0 .left, w .1)) (c .before .if1 .came))
 
-returns-2 : tie.Need-returns-2
-unfolding clearSynthesis
-returns-2 c =
-    let s = c .before .before in
-    old-is played (λ (d : Cleared). d .number) (λ (d : Cleared). d .channel) (s .before .before .before .before .args .old) (s .before .clear .ensures ∙ ap cleared (s .before .before .byte-at .ensures)) (s .plain .ensures) (c .if1 .left)
+-- the needs without a name, for any answer: a wrong one hides none of them
+safe : tie.Need-returns → {M : Type 1} → statement M
+safe returns = tie.close (tie.spec (λ c κs. search needs) (λ c κs. search needs) (λ c κs. search needs) returns)
 
 pub clear-synthesis-spec : {M : Type 1} → statement M
-clear-synthesis-spec =
-    tie.close (tie.spec byte-at-requires clear-requires plain-requires returns returns-2)
+clear-synthesis-spec = safe returns

@@ -2,7 +2,7 @@
 use mathlib.Core.Path.{_∙_}
 use borrow.Author.Needs.{needs}
 use Rattle.call_made.proofs.Lends.{lends}
-use Rattle.call_made.proofs.Answers.{turned-is}
+use Rattle.call_made.proofs.Answers.{dct-is}
 use Rattle.call_made.proofs.dct.Statement.{statement}
 use Rattle.call_made.proofs.dct.Tie as tie
 
@@ -35,7 +35,7 @@ returns c =
     let s = c .before .before .before .before in
     let l = lends (s .before .before .before .area .ensures) (s .before .before .rest .ensures) (s .count-floats .ensures) in
     let v = c .before .before .dct-on in
-    turned-is (s .before .before .before .before .before .args .b .now) (v .result) _ l (v .ensures) (c .one-area .ensures)
+    dct-is (s .before .before .before .before .before .args .b .now) (v .result) _ l (v .ensures) (c .one-area .ensures)
 
 pub dct-spec : {M : Type 1} → statement M
 dct-spec =

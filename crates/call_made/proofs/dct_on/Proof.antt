@@ -2,7 +2,8 @@
 use mathlib.Core.Path.{ap, _∙_}
 use lib.ListN.{length}
 use Rattle.laws.specs.Lists.{tab}
-use Rattle.call_log.specs.Log.{short, floatOf}
+use Rattle.frame_file.specs.File.{short}
+use Rattle.call_log.specs.Log.{floatOf}
 use Rattle.dct_iv.specs.DctIv as dc
 use borrow.Author.Needs.{needs}
 use Rattle.call_made.proofs.dct_on.Statement.{statement}

@@ -3,7 +3,7 @@ use mathlib.Core.Path.{ap, _∙_}
 use Prim.Native.Nat.{ℕ}
 use lib.Dec.{eqb}
 use lib.ListN.{drop}
-use Rattle.call_log.specs.Log.{short}
+use Rattle.frame_file.specs.File.{short}
 use borrow.Author.Needs.{needs}
 use Rattle.call_made.proofs.Lends.{lends}
 use Rattle.call_made.proofs.Answers.{transformed-is}

@@ -1,8 +1,9 @@
 -- `call_made::set_synthesis` meets its contract: the places that are read into, and the rest zero. Assumes nothing.
+use mathlib.Core.Path.{_∙_}
 use Rattle.call_log.specs.Log.{floatOf}
 use borrow.Author.Needs.{needs}
-use Rattle.call_made.specs.Made.{played, setSynthesis}
-use Rattle.call_made.proofs.Lends.{lends, filled}
+use Rattle.call_made.specs.Made.{plain, played, setSynthesis}
+use Rattle.call_made.proofs.Lends.{read-into}
 use Rattle.call_made.proofs.set_synthesis.Statement.{statement}
 use Rattle.call_made.proofs.set_synthesis.Tie as tie
 
@@ -10,10 +11,8 @@ returns : tie.Need-returns
 unfolding setSynthesis
 returns c =
     let s = c .before .before .before .before .before in
-    let e = s .before .before .before .rest .ensures in
-    let l = lends (s .before .before .floats-300 .ensures) e (s .count-floats .ensures) in
-    let held = filled floatOf l e (c .before .before .before .floats .ensures) in
-    λ j. played (record { config = c .before .byte-at .ensures j; memory = held j }) (c .plain .ensures j)
+    let all = read-into floatOf (s .before .before .floats-300 .ensures) (s .before .before .before .rest .ensures) (s .count-floats .ensures) (c .before .before .before .floats .ensures) in
+    c .played-as .ensures ∙ (λ j. played (record { config = c .before .byte-at .ensures j; memory = all j }) (plain 0))
 
 pub set-synthesis-spec : {M : Type 1} → statement M
 set-synthesis-spec =

@@ -1,58 +1,34 @@
 -- `call_text::put_areas` meets its contract: each arm writes the lines of its kind. Assumes nothing.
-use mathlib.Core.Path.{_≡_, ap, sym, _∙_}
-use mathlib.Core.List.{List}
-use Prim.Native.Nat.{ℕ}
-use lib.Ieee.{Float}
 use borrow.Author.Tests.{ne-eqb}
-use Rattle.call_text.specs.Page.{Page, page, written}
-use Rattle.call_text.specs.Lines.{areaLines}
+use Rattle.call_text.specs.Page.{page}
 use Rattle.call_text.proofs.Pages.{nothing}
 use borrow.Author.Needs.{needs}
 use Rattle.call_text.proofs.put_areas.Statement.{statement}
 use Rattle.call_text.proofs.put_areas.Tie as tie
 
-of-kind : (p : Page) (x y : List Float) (z : List ℕ) {k n : ℕ} → k ≡ n → written p (areaLines n x y z) ≡ written p (areaLines k x y z)
-of-kind p x y z e = ap (λ (k : ℕ). written p (areaLines k x y z)) (sym e)
-
 returns : tie.Need-returns
-returns c =
-    let a = c .before .before .before .before .before .before .before .before .before .args in
-    c .before .before .put-analysed .ensures ∙ of-kind (page (a .out .now) (a .at)) (a .x .now) (a .y .now) (a .z .now) (c .before .before .before .before .match .keys1)
+returns c = simp (c .before .before .before .before .match .keys1) (c .before .before .put-analysed .ensures)
 
 returns-2 : tie.Need-returns-2
-returns-2 c =
-    let a = c .before .before .before .before .before .before .before .before .before .before .args in
-    c .before .before .put-area .ensures ∙ of-kind (page (a .out .now) (a .at)) (a .x .now) (a .y .now) (a .z .now) (c .before .before .before .before .before .match .keys2)
+returns-2 c = simp (c .before .before .before .before .before .match .keys2) (c .before .before .put-area .ensures)
 
 returns-3 : tie.Need-returns-3
-returns-3 c =
-    let a = c .before .before .before .before .before .before .before .before .before .before .before .args in
-    c .before .before .put-both .ensures ∙ of-kind (page (a .out .now) (a .at)) (a .x .now) (a .y .now) (a .z .now) (c .before .before .before .before .before .before .match .keys3)
+returns-3 c = simp (c .before .before .before .before .before .before .match .keys3) (c .before .before .put-both .ensures)
 
 returns-4 : tie.Need-returns-4
-returns-4 c =
-    let a = c .before .before .before .before .before .before .before .before .before .before .args in
-    c .before .before .put-area2 .ensures ∙ of-kind (page (a .out .now) (a .at)) (a .x .now) (a .y .now) (a .z .now) (c .before .before .before .before .before .match .keys4)
+returns-4 c = simp (c .before .before .before .before .before .match .keys4) (c .before .before .put-area2 .ensures)
 
 returns-5 : tie.Need-returns-5
-returns-5 c =
-    let a = c .before .before .before .before .before .before .before .before .before .args in
-    c .before .before .put-energy .ensures ∙ of-kind (page (a .out .now) (a .at)) (a .x .now) (a .y .now) (a .z .now) (c .before .before .before .before .match .keys5)
+returns-5 c = simp (c .before .before .before .before .match .keys5) (c .before .before .put-energy .ensures)
 
 returns-6 : tie.Need-returns-6
-returns-6 c =
-    let a = c .before .before .before .before .before .before .before .before .before .before .args in
-    c .before .before .put-area3 .ensures ∙ of-kind (page (a .out .now) (a .at)) (a .x .now) (a .y .now) (a .z .now) (c .before .before .before .before .before .match .keys6)
+returns-6 c = simp (c .before .before .before .before .before .match .keys6) (c .before .before .put-area3 .ensures)
 
 returns-7 : tie.Need-returns-7
-returns-7 c =
-    let a = c .before .before .before .before .before .before .before .before .before .args in
-    c .before .before .put-measured .ensures ∙ of-kind (page (a .out .now) (a .at)) (a .x .now) (a .y .now) (a .z .now) (c .before .before .before .before .match .keys7)
+returns-7 c = simp (c .before .before .before .before .match .keys7) (c .before .before .put-measured .ensures)
 
 returns-8 : tie.Need-returns-8
-returns-8 c =
-    let a = c .before .before .before .before .before .before .before .before .before .before .args in
-    c .before .before .put-decimals .ensures ∙ of-kind (page (a .out .now) (a .at)) (a .x .now) (a .y .now) (a .z .now) (c .before .before .before .before .before .match .keys8)
+returns-8 c = simp (c .before .before .before .before .before .match .keys8) (c .before .before .put-decimals .ensures)
 
 returns-9 : tie.Need-returns-9
 returns-9 c =

@@ -9,46 +9,16 @@ use borrow.Author.Needs.{needs}
 use Rattle.call_text.proofs.put_extra.Statement.{statement}
 use Rattle.call_text.proofs.put_extra.Tie as tie
 
-enum-told : tie.Need-enum-told
-enum-told c = search needs
-
-put-requires : tie.Need-put-requires
-put-requires c κs = search needs
-
-enum-known-e : tie.Need-enum-known-e
-enum-known-e c = search needs
-
-digit-requires : tie.Need-digit-requires
-digit-requires c κs = search needs
-
-put-requires-2 : tie.Need-put-requires-2
-put-requires-2 c κs = search needs
-
-enum-known-e-2 : tie.Need-enum-known-e-2
-enum-known-e-2 c = search needs
-
-put-decimal-requires : tie.Need-put-decimal-requires
-put-decimal-requires c κs = search needs
-
-same-length : tie.Need-same-length
-same-length c = search needs
-
 returns : tie.Need-returns
 returns c =
     let a = c .before .before .before .before .before .before .before .args in
     c .before .before .put .ensures ∙ ap (λ (e : Extra). written (page (a .out .now) (a .at)) (extra e)) (sym (c .before .before .before .before .enum-told .given .1))
-
-same-length-2 : tie.Need-same-length-2
-same-length-2 c = search needs
 
 returns-2 : tie.Need-returns-2
 returns-2 c =
     let a = c .before .before .before .before .before .before .before .before .before .args in
     let p = page (a .out .now) (a .at) in
     c .before .before .put2 .ensures ∙ ap (λ (b : ℕ). written p (b ∷ [])) (c .before .before .before .digit .ensures) ∙ ap (λ (e : Extra). written p (extra e)) (sym (c .before .before .before .before .before .before .e .given .1))
-
-same-length-3 : tie.Need-same-length-3
-same-length-3 c = search needs
 
 returns-3 : tie.Need-returns-3
 returns-3 c =
@@ -57,4 +27,5 @@ returns-3 c =
 
 pub put-extra-spec : {M : Type 1} → statement M
 put-extra-spec =
-    tie.close (tie.spec enum-told put-requires enum-known-e digit-requires put-requires-2 enum-known-e-2 put-decimal-requires same-length returns same-length-2 returns-2 same-length-3 returns-3)
+    tie.close (tie.spec (λ c. search needs) (λ c κs. search needs) (λ c. search needs) (λ c κs. search needs) (λ c κs. search needs) (λ c. search needs) (λ c κs. search needs) (λ c. search needs)
+    returns (λ c. search needs) returns-2 (λ c. search needs) returns-3)

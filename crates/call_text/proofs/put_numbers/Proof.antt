@@ -9,21 +9,6 @@ use borrow.Author.Needs.{needs}
 use Rattle.call_text.proofs.put_numbers.Statement.{statement}
 use Rattle.call_text.proofs.put_numbers.Tie as tie
 
-put-decimal-requires : tie.Need-put-decimal-requires
-put-decimal-requires c κs = search needs
-
-slice-aggregate-put-worded : tie.Need-slice-aggregate-put-worded
-slice-aggregate-put-worded c = search needs
-
-put-worded-requires : tie.Need-put-worded-requires
-put-worded-requires c κs = search needs
-
-put-requires : tie.Need-put-requires
-put-requires c κs = search needs
-
-same-length : tie.Need-same-length
-same-length c = search needs
-
 returns : tie.Need-returns
 unfolding worded numbers
 returns c =
@@ -33,4 +18,4 @@ returns c =
 
 pub put-numbers-spec : {M : Type 1} → statement M
 put-numbers-spec =
-    tie.close (tie.spec put-decimal-requires slice-aggregate-put-worded put-worded-requires put-requires same-length returns)
+    tie.close (tie.spec (λ c κs. search needs) (λ c. search needs) (λ c κs. search needs) (λ c κs. search needs) (λ c. search needs) returns)

@@ -1,32 +1,18 @@
 -- `call_text::put_places` meets its contract. The invariant: what is left, written on the page at hand, makes the page that is to be (`Going`). Assumes nothing.
-use mathlib.Core.List.{_++_}
-use Prim.Native.Nat.{_-_}
 use native.Mathlib.Omega.{arith}
-use lib.ListN.{length}
-use Rattle.plain_text.specs.Text.{space, decimal}
-use Rattle.call_text.proofs.Pages.{Going, begun, again, ended}
+use Rattle.plain_text.specs.Text.{decimal}
+use Rattle.call_text.proofs.Pages.{Spaced, ToGo, begun, again, ended}
 use borrow.Author.Needs.{needs}
 use Rattle.call_text.proofs.put_places.Statement.{statement}
 use Rattle.call_text.proofs.put_places.Tie as tie
 
-abbrev Inv-loop : tie.InvT-loop
-Inv-loop out₀ at z k₀ i₀ out k i = Going (λ y. space ++ decimal y) z out₀ k₀ out k i
+loop-again : tie.Need-loop-again (Spaced decimal) ToGo
+loop-again c = let w = c .before .before .put-place in again 0 _ _ (c .before .before .before .before .before .before .loop .inv) (omega arith) (w .kept .0) (w .ensures)
 
-abbrev μ-loop : tie.MeasureT-loop
-μ-loop out₀ at z k₀ i₀ out k i = length z - i
-
-loop-holds : tie.Need-loop-holds Inv-loop μ-loop
-loop-holds c = let a = c .before .before .args in begun (a .out .now) (a .at)
-
-loop-again : tie.Need-loop-again Inv-loop μ-loop
-loop-again c =
-    let w = c .before .before .put-place in
-    again 0 (w .last .0) (w .result) (c .before .before .before .before .before .before .loop .inv) (omega arith) (w .kept .0) (w .ensures)
-
-returns : tie.Need-returns Inv-loop μ-loop
+returns : tie.Need-returns (Spaced decimal) ToGo
 returns c = ended (c .before .before .before .before .before .loop .inv) (omega arith) (c .before .before .put .ensures)
 
 pub put-places-spec : {M : Type 1} → statement M
 put-places-spec =
-    tie.close (tie.spec Inv-loop μ-loop loop-holds (λ c. search needs) (λ c. search needs) (λ c κs. search needs) (λ c. search needs) (λ c. search needs) loop-again (λ c κs. search needs)
+    tie.close (tie.spec (Spaced decimal) ToGo (λ c. begun _ _) (λ c. search needs) (λ c. search needs) (λ c κs. search needs) (λ c. search needs) (λ c. search needs) loop-again (λ c κs. search needs)
     (λ c. search needs) returns)

@@ -7,12 +7,6 @@ use borrow.Author.Needs.{needs}
 use Rattle.call_text.proofs.put_sign.Statement.{statement}
 use Rattle.call_text.proofs.put_sign.Tie as tie
 
-put-requires : tie.Need-put-requires
-put-requires c κs = search needs
-
-same-length : tie.Need-same-length
-same-length c = search needs
-
 returns : tie.Need-returns
 returns c =
     let a = c .before .before .before .before .before .before .args in
@@ -25,4 +19,4 @@ returns-2 c =
     nothing (page (a .out .now) (a .at)) ∙ ap (written (page (a .out .now) (a .at))) (sign-none (a .x) (read-test (a .x) (c .before .before .fits .x) (c .if1 .left)))
 
 pub put-sign-spec : {M : Type 1} → statement M
-put-sign-spec = tie.close (tie.spec put-requires same-length returns returns-2)
+put-sign-spec = tie.close (tie.spec (λ c κs. search needs) (λ c. search needs) returns returns-2)

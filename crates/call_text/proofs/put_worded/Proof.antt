@@ -7,18 +7,6 @@ use borrow.Author.Needs.{needs}
 use Rattle.call_text.proofs.put_worded.Statement.{statement}
 use Rattle.call_text.proofs.put_worded.Tie as tie
 
-put-bytes-requires : tie.Need-put-bytes-requires
-put-bytes-requires c κs = search needs
-
-put-requires : tie.Need-put-requires
-put-requires c κs = search needs
-
-put-decimal-requires : tie.Need-put-decimal-requires
-put-decimal-requires c κs = search needs
-
-same-length : tie.Need-same-length
-same-length c = search needs
-
 returns : tie.Need-returns
 unfolding worded
 returns c =
@@ -27,4 +15,4 @@ returns c =
 
 pub put-worded-spec : {M : Type 1} → statement M
 put-worded-spec =
-    tie.close (tie.spec put-bytes-requires put-requires put-decimal-requires same-length returns)
+    tie.close (tie.spec (λ c κs. search needs) (λ c κs. search needs) (λ c κs. search needs) (λ c. search needs) returns)

@@ -8,12 +8,6 @@ use borrow.Author.Needs.{needs}
 use Rattle.frame_file.proofs.begins.Statement.{statement}
 use Rattle.frame_file.proofs.begins.Tie as tie
 
-shared-slice-read-if1 : tie.Need-shared-slice-read-if1
-shared-slice-read-if1 c = search needs
-
-element-copy-out-if1 : tie.Need-element-copy-out-if1
-element-copy-out-if1 c = search needs
-
 returns : tie.Need-returns
 unfolding marked
 returns c =
@@ -21,24 +15,12 @@ returns c =
     let m = c .before .before .before .args .mark .now in
     rw (ne-eqb (byte f 0) (byte m 0) (c .if1 .taken))
 
-shared-slice-read-if2 : tie.Need-shared-slice-read-if2
-shared-slice-read-if2 c = search needs
-
-element-copy-out-if2 : tie.Need-element-copy-out-if2
-element-copy-out-if2 c = search needs
-
 returns-2 : tie.Need-returns-2
 unfolding marked
 returns-2 c =
     let f = c .before .before .before .before .before .before .args .file .now in
     let m = c .before .before .before .before .before .before .args .mark .now in
     rw (eq-eqb (byte f 0) (byte m 0) (c .before .before .before .if1 .left), ne-eqb (byte f 1) (byte m 1) (c .if2 .taken))
-
-shared-slice-read-result : tie.Need-shared-slice-read-result
-shared-slice-read-result c = search needs
-
-element-copy-out-result : tie.Need-element-copy-out-result
-element-copy-out-result c = search needs
 
 returns-3 : tie.Need-returns-3
 unfolding marked
@@ -49,4 +31,4 @@ returns-3 c =
 
 pub begins-spec : {M : Type 1} → statement M
 begins-spec =
-    tie.close (tie.spec shared-slice-read-if1 element-copy-out-if1 returns shared-slice-read-if2 element-copy-out-if2 returns-2 shared-slice-read-result element-copy-out-result returns-3)
+    tie.close (tie.spec (λ c. search needs) (λ c. search needs) returns (λ c. search needs) (λ c. search needs) returns-2 (λ c. search needs) (λ c. search needs) returns-3)

@@ -5,7 +5,7 @@ use Prim.Native.Nat.{ℕ, _≤_, _<_}
 use lib.ListN.{length}
 use borrow.Author.Tests.{lt-ltb, le-ltb, eq-eqb, ne-eqb, not-true, not-false}
 use Rattle.config.specs.Config.{valid}
-use Rattle.frame_file.specs.File.{byte, short, marked, headerOf}
+use Rattle.frame_file.specs.File.{byte, shortAt, marked, headerOf}
 use Rattle.frame_file.specs.declared.Header.{Header}
 use Rattle.frame_file.specs.declared.Header.the-variants.{Good}
 use borrow.Author.Needs.{needs}
@@ -40,7 +40,7 @@ returns-3 : tie.Need-returns-3
 unfolding headerOf
 returns-3 c =
     let f = c .before .before .before .before .before .before .before .before .args .file .now in
-    rw (le-ltb (length f) 6 (c .before .before .before .before .before .before .if1 .left), ← c .before .before .before .before .before .begins .ensures, not-false (c .before .before .before .before .before .begins .result) (c .before .before .before .before .if2 .left), ne-eqb (short f 3) 1 (λ e. c .if3 .taken (c .before .join .ensures ∙ e)))
+    rw (le-ltb (length f) 6 (c .before .before .before .before .before .before .if1 .left), ← c .before .before .before .before .before .begins .ensures, not-false (c .before .before .before .before .before .begins .result) (c .before .before .before .before .if2 .left), ne-eqb (shortAt f 3) 1 (λ e. c .if3 .taken (c .before .join .ensures ∙ e)))
 
 shared-slice-read-config : tie.Need-shared-slice-read-config
 shared-slice-read-config c = search needs
@@ -54,7 +54,7 @@ returns-4 c =
     let f = c .before .before .before .before .before .before .before .before .before .before .before .args .file .now in
     let v = c .before .before .before .before .join .ensures in
     let known = not-true (c .before .valid .result) (c .if4 .taken) in
-    rw (le-ltb (length f) 6 (c .before .before .before .before .before .before .before .before .before .if1 .left), ← c .before .before .before .before .before .before .before .before .begins .ensures, not-false (c .before .before .before .before .before .before .before .before .begins .result) (c .before .before .before .before .before .before .before .if2 .left), eq-eqb (short f 3) 1 (sym v ∙ c .before .before .before .if3 .left), ← c .before .valid .ensures, known)
+    rw (le-ltb (length f) 6 (c .before .before .before .before .before .before .before .before .before .if1 .left), ← c .before .before .before .before .before .before .before .before .begins .ensures, not-false (c .before .before .before .before .before .before .before .before .begins .result) (c .before .before .before .before .before .before .before .if2 .left), eq-eqb (shortAt f 3) 1 (sym v ∙ c .before .before .before .if3 .left), ← c .before .valid .ensures, known)
 
 returns-5 : tie.Need-returns-5
 unfolding headerOf
@@ -62,7 +62,7 @@ returns-5 c =
     let f = c .before .before .before .before .before .before .before .before .before .before .before .args .file .now in
     let v = c .before .before .before .before .join .ensures in
     let known = not-false (c .before .valid .result) (c .if4 .left) in
-    rw (le-ltb (length f) 6 (c .before .before .before .before .before .before .before .before .before .if1 .left), ← c .before .before .before .before .before .before .before .before .begins .ensures, not-false (c .before .before .before .before .before .before .before .before .begins .result) (c .before .before .before .before .before .before .before .if2 .left), eq-eqb (short f 3) 1 (sym v ∙ c .before .before .before .if3 .left), ← c .before .valid .ensures, known) (ap (λ (n : ℕ). Good n (byte f 5)) v)
+    rw (le-ltb (length f) 6 (c .before .before .before .before .before .before .before .before .before .if1 .left), ← c .before .before .before .before .before .before .before .before .begins .ensures, not-false (c .before .before .before .before .before .before .before .before .begins .result) (c .before .before .before .before .before .before .before .if2 .left), eq-eqb (shortAt f 3) 1 (sym v ∙ c .before .before .before .if3 .left), ← c .before .valid .ensures, known) (ap (λ (n : ℕ). Good n (byte f 5)) v)
 
 pub header-with-spec : {M : Type 1} → statement M
 header-with-spec =

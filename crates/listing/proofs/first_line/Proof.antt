@@ -13,23 +13,11 @@ use borrow.Author.Needs.{needs}
 use Rattle.listing.proofs.first_line.Statement.{statement}
 use Rattle.listing.proofs.first_line.Tie as tie
 
-blank-requires : tie.Need-blank-requires
-blank-requires c κs = search needs
-
-slice-aggregate-with-bytes : tie.Need-slice-aggregate-with-bytes
-slice-aggregate-with-bytes c = search needs
-
 with-bytes-requires : tie.Need-with-bytes-requires
 with-bytes-requires c κs = omega (arith, ap (λ (t : Text). t .len) (c .before .blank .ensures))
 
-slice-aggregate-numbered : tie.Need-slice-aggregate-numbered
-slice-aggregate-numbered c = search needs
-
 numbered-requires : tie.Need-numbered-requires
 numbered-requires c κs = omega (arith, says-len (begun (lmf ++ space) (c .before .before .before .blank .ensures) (c .before .with-bytes .ensures)))
-
-slice-aggregate-numbered-2 : tie.Need-slice-aggregate-numbered-2
-slice-aggregate-numbered-2 c = search needs
 
 numbered-requires-2 : tie.Need-numbered-requires-2
 numbered-requires-2 c κs =
@@ -46,4 +34,4 @@ returns c =
 
 pub first-line-spec : {M : Type 1} → statement M
 first-line-spec =
-    tie.close (tie.spec blank-requires slice-aggregate-with-bytes with-bytes-requires slice-aggregate-numbered numbered-requires slice-aggregate-numbered-2 numbered-requires-2 returns)
+    tie.close (tie.spec (λ c κs. search needs) (λ c. search needs) with-bytes-requires (λ c. search needs) numbered-requires (λ c. search needs) numbered-requires-2 returns)

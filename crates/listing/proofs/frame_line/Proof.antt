@@ -8,8 +8,8 @@ use mathlib.Core.Bool.{Bool}
 use Prim.Native.Nat.{ℕ, _+_, _≤_}
 use native.Mathlib.Omega.{arith}
 use Rattle.listing.specs.declared.line.Text.{Text}
-use Rattle.plain_text.specs.Text.{newline, decimal}
-use Rattle.listing.specs.Text.{digit, band, frameLine}
+use Rattle.plain_text.specs.Text.{newline, digit, decimal}
+use Rattle.listing.specs.Text.{band, frameLine}
 use Rattle.listing.specs.Steps.{text}
 use Rattle.listing.proofs.Lines.{begun, grown, says-len, length-numbered}
 use borrow.Author.Needs.{needs}

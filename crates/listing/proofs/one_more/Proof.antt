@@ -6,9 +6,6 @@ use borrow.Author.Needs.{needs}
 use Rattle.listing.proofs.one_more.Statement.{statement}
 use Rattle.listing.proofs.one_more.Tie as tie
 
-add-result : tie.Need-add-result
-add-result c = search needs
-
 returns : tie.Need-returns
 unfolding counted
 returns c = rw (lt-ltb (c .before .args .n) (2 ^ 64 - 1) (c .if1 .taken))
@@ -18,4 +15,4 @@ unfolding counted
 returns-2 c = rw (le-ltb (c .before .args .n) (2 ^ 64 - 1) (c .if1 .left))
 
 pub one-more-spec : {M : Type 1} → statement M
-one-more-spec = tie.close (tie.spec add-result returns returns-2)
+one-more-spec = tie.close (tie.spec (λ c. search needs) returns returns-2)

@@ -10,14 +10,8 @@ use borrow.Author.Needs.{needs}
 use Rattle.listing.proofs.worded.Statement.{statement}
 use Rattle.listing.proofs.worded.Tie as tie
 
-blank-requires : tie.Need-blank-requires
-blank-requires c κs = search needs
-
 with-bytes-requires : tie.Need-with-bytes-requires
 with-bytes-requires c κs = omega (arith, ap (λ (t : Text). t .len) (c .blank .ensures), c .before .before .pre)
-
-slice-aggregate-numbered : tie.Need-slice-aggregate-numbered
-slice-aggregate-numbered c = search needs
 
 numbered-requires : tie.Need-numbered-requires
 numbered-requires c κs = omega (arith, says-len (begun (c .before .before .before .before .args .word .now) (c .before .before .blank .ensures) (c .before .with-bytes .ensures)), c .before .before .before .before .pre)
@@ -29,4 +23,4 @@ returns c =
 
 pub worded-spec : {M : Type 1} → statement M
 worded-spec =
-    tie.close (tie.spec blank-requires with-bytes-requires slice-aggregate-numbered numbered-requires returns)
+    tie.close (tie.spec (λ c κs. search needs) with-bytes-requires (λ c. search needs) numbered-requires returns)

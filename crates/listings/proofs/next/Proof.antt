@@ -7,22 +7,12 @@ use Rattle.listing.proofs.Found.{nf-most}
 use Rattle.listings.proofs.next.Statement.{statement}
 use Rattle.listings.proofs.next.Tie as tie
 
-wanted-requires : tie.Need-wanted-requires
-wanted-requires c κs = search needs
-
 array-borrow-prefix-buf : tie.Need-array-borrow-prefix-buf
 array-borrow-prefix-buf c = omega (arith, c .wanted .ensures, nf-most (c .before .args .lister .channel .config))
 
 slice-aggregate-step : tie.Need-slice-aggregate-step
 slice-aggregate-step c = sym (length-take-le _ _ (array-borrow-prefix-buf (c .before)))
 
-step-requires : tie.Need-step-requires
-step-requires c κs = search needs
-
-returns : tie.Need-returns
-returns c = search needs
-
 pub next-spec : {M : Type 1} → statement M
 next-spec =
-    tie.close
-    (tie.spec wanted-requires array-borrow-prefix-buf slice-aggregate-step step-requires returns)
+    tie.close (tie.spec (λ c κs. search needs) array-borrow-prefix-buf slice-aggregate-step (λ c κs. search needs) (λ c. search needs))

@@ -7,9 +7,6 @@ use borrow.Author.Needs.{needs}
 use Rattle.listings.proofs.put.Statement.{statement}
 use Rattle.listings.proofs.put.Tie as tie
 
-size-requires : tie.Need-size-requires
-size-requires c κs = search needs
-
 array-share-prefix-bytes : tie.Need-array-share-prefix-bytes
 array-share-prefix-bytes c =
     let whole : length (c .before .before .args .text .bytes) ≡ 64 = search needs in
@@ -18,12 +15,6 @@ array-share-prefix-bytes c =
 slice-aggregate-write-all : tie.Need-slice-aggregate-write-all
 slice-aggregate-write-all c = sym (length-take-le _ _ (array-share-prefix-bytes (c .before)))
 
-write-all-requires : tie.Need-write-all-requires
-write-all-requires c κs = search needs
-
-returns : tie.Need-returns
-returns c = search needs
-
 pub put-spec : {M : Type 1} → statement M
 put-spec =
-    tie.close (tie.spec size-requires array-share-prefix-bytes slice-aggregate-write-all write-all-requires returns)
+    tie.close (tie.spec (λ c κs. search needs) array-share-prefix-bytes slice-aggregate-write-all (λ c κs. search needs) (λ c. search needs))

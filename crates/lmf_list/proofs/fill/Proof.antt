@@ -16,12 +16,6 @@ Inv-loop buf₀ input₀ buf input = (length buf ≡ length buf₀) × (input .l
 abbrev μ-loop : tie.MeasureT-loop
 μ-loop buf₀ input₀ buf input = left (length buf₀) input
 
-loop-holds : tie.Need-loop-holds Inv-loop μ-loop
-loop-holds c = search needs
-
-read-more-requires : tie.Need-read-more-requires Inv-loop μ-loop
-read-more-requires c κs = search needs
-
 loop-again : tie.Need-loop-again Inv-loop μ-loop
 loop-again c = (omega arith, c .before .before .read-more .ensures .within)
 
@@ -32,18 +26,12 @@ loop-less c =
     let room = ltb-true (l .input .len) (length (l .buf)) (c .before .before .before .before .if1 .taken) in
     less _ (l .input) (r .result) (c .before .before .before .before .before .before .loop-test .taken) (omega (arith, room, l .inv .0)) (r .ensures .from) (r .ensures .more)
 
-same-length : tie.Need-same-length Inv-loop μ-loop
-same-length c = search needs
-
 returns : tie.Need-returns Inv-loop μ-loop
 returns c = filled _ _ (c .before .before .before .loop .inv .1) (λ q. ltb-false _ _ (c .if1 .left))
-
-same-length-2 : tie.Need-same-length-2 Inv-loop μ-loop
-same-length-2 c = search needs
 
 returns-2 : tie.Need-returns-2 Inv-loop μ-loop
 returns-2 c = filled _ _ (c .before .loop .inv .1) (λ q. absurd (true≢false (sym q ∙ c .loop-test .left)))
 
 pub fill-spec : {M : Type 1} → statement M
 fill-spec =
-    tie.close (tie.spec Inv-loop μ-loop loop-holds read-more-requires loop-less loop-again same-length returns same-length-2 returns-2)
+    tie.close (tie.spec Inv-loop μ-loop (λ c. search needs) (λ c κs. search needs) loop-less loop-again (λ c. search needs) returns (λ c. search needs) returns-2)

@@ -10,21 +10,6 @@ slice-aggregate-write-all c =
     let a = c .before .before .args in
     sym (length-take-le (a .n) (a .out .now) (c .before .before .pre))
 
-write-all-requires : tie.Need-write-all-requires
-write-all-requires c κs = search needs
-
-slice-aggregate-write-all-2 : tie.Need-slice-aggregate-write-all-2
-slice-aggregate-write-all-2 c = search needs
-
-write-all-requires-2 : tie.Need-write-all-requires-2
-write-all-requires-2 c κs = search needs
-
-returns : tie.Need-returns
-returns c = search needs
-
-returns-2 : tie.Need-returns-2
-returns-2 c = search needs
-
 pub flush-spec : {M : Type 1} → statement M
 flush-spec =
-    tie.close (tie.spec slice-aggregate-write-all write-all-requires slice-aggregate-write-all-2 write-all-requires-2 returns returns-2)
+    tie.close (tie.spec slice-aggregate-write-all (λ c κs. search needs) (λ c. search needs) (λ c κs. search needs) (λ c. search needs) (λ c. search needs))

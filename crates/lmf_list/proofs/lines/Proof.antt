@@ -1,4 +1,4 @@
--- `lmf_list::lines` meets its contract. The invariant: what waits is a part of the slice, whose length stays, and the frames listed can be counted. Each turn counts a
+-- `lmf_list::lines` meets its contract. The invariant: what waits is a part of the slice, whose length stays, and the frames listed can be counted. Each round counts a
 -- frame more or is the last. Assumes nothing.
 use Prim.Native.Nat.{_-_, _^_, _≤_}
 use mathlib.Core.Path.{_≡_, refl, sym, ap, _∙_}
@@ -18,11 +18,11 @@ use Rattle.lmf_list.proofs.next.Reads as next-reads
 use Rattle.lmf_list.proofs.open.Reads as open-reads
 
 abbrev Inv-loop : tie.InvT-loop
-Inv-loop out₀ room₀ turn₀ output₀ out room turn output =
-    (length out ≡ length out₀) × (64 ≤ length out₀) × (output .len ≤ length out) × (length room ≡ 960) × (listed (turn .stepped) ≤ 2 ^ 64 - 1)
+Inv-loop out₀ room₀ step₀ output₀ out room step output =
+    (length out ≡ length out₀) × (64 ≤ length out₀) × (output .len ≤ length out) × (length room ≡ 960) × (listed (step .stepped) ≤ 2 ^ 64 - 1)
 
 abbrev μ-loop : tie.MeasureT-loop
-μ-loop out₀ room₀ turn₀ output₀ out room turn output = to-go (turn .stepped)
+μ-loop out₀ room₀ step₀ output₀ out room step output = to-go (step .stepped)
 
 slice-aggregate-open : tie.Need-slice-aggregate-open Inv-loop μ-loop
 slice-aggregate-open c = search needs
@@ -44,12 +44,12 @@ slice-aggregate-next c = search needs
 next-requires : tie.Need-next-requires Inv-loop μ-loop
 next-requires c κs = search needs
 
--- the step after this turn's
-on : (c : lts.After-room2 (open-reads.Asked, open-reads.Learnt, emit-reads.Asked, emit-reads.Learnt, next-reads.Asked, next-reads.Learnt) reads.Pre reads.Post Inv-loop μ-loop) → Goes (c .before .before .before .before .before .before .before .before .before .before .before .before .before .before .before .before .loop .turn .stepped) (c .before .next .result .stepped)
+-- the step after this one
+on : (c : lts.After-room2 (open-reads.Asked, open-reads.Learnt, emit-reads.Asked, emit-reads.Learnt, next-reads.Asked, next-reads.Learnt) reads.Pre reads.Post Inv-loop μ-loop) → Goes (c .before .before .before .before .before .before .before .before .before .before .before .before .before .before .before .before .loop .step .stepped) (c .before .next .result .stepped)
 on c =
     let l = c .before .before .before .before .before .before .before .before .before .before .before .before .before .before .before .before .loop in
     let n = c .before .next in
-    goes (l .turn .stepped) (n .result .stepped) _ (c .before .before .before .before .before .if2 .left) (c .before .before .before .if3 .left) (l .inv .4) (n .ensures .stepped)
+    goes (l .step .stepped) (n .result .stepped) _ (c .before .before .before .before .before .if2 .left) (c .before .before .before .if3 .left) (l .inv .4) (n .ensures .stepped)
 
 loop-less : tie.Need-loop-less Inv-loop μ-loop
 loop-less c = on c .less

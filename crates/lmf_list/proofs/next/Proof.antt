@@ -9,20 +9,11 @@ use Rattle.lmf_list.proofs.Reading.{next-step}
 use Rattle.lmf_list.proofs.next.Statement.{statement}
 use Rattle.lmf_list.proofs.next.Tie as tie
 
-wanted-requires : tie.Need-wanted-requires
-wanted-requires c κs = search needs
-
 slice-relend-prefix-step : tie.Need-slice-relend-prefix-step
 slice-relend-prefix-step c = omega (arith, c .wanted .ensures, nf-most (c .before .before .args .lister .channel .config), c .before .before .pre)
 
 slice-aggregate-step : tie.Need-slice-aggregate-step
 slice-aggregate-step c = sym (length-take-le _ _ (slice-relend-prefix-step (c .before)))
-
-step-requires : tie.Need-step-requires
-step-requires c κs = search needs
-
-same-length : tie.Need-same-length
-same-length c = search needs
 
 returns : tie.Need-returns
 returns c =
@@ -33,4 +24,4 @@ returns c =
 
 pub next-spec : {M : Type 1} → statement M
 next-spec =
-    tie.close (tie.spec wanted-requires slice-relend-prefix-step slice-aggregate-step step-requires same-length returns)
+    tie.close (tie.spec (λ c κs. search needs) slice-relend-prefix-step slice-aggregate-step (λ c κs. search needs) (λ c. search needs) returns)

@@ -4,23 +4,23 @@ use Prim.Native.Nat.{_+_, _-_, _≤_}
 use mathlib.Core.Path.{_≡_, refl, _∙_}
 use lib.ListN.{length, drop}
 use native.Mathlib.Omega.{arith}
-use Rattle.replay.specs.Held.{Held}
+use Rattle.replay.specs.Unused.{Unused}
 use Rattle.replay.proofs.Parts.{at-most}
 use borrow.Author.Needs.{needs}
 use Rattle.replay.proofs.calls.Statement.{statement}
 use Rattle.replay.proofs.calls.Tie as tie
 
 abbrev Inv-loop : tie.InvT-loop
-Inv-loop input₀ out₀ held₀ bench₀ at₀ count₀ input out held bench at count = (length input ≡ length input₀) × (length out ≡ length out₀) × Held (held .from) (held .to) (length input)
+Inv-loop input₀ out₀ unused₀ bench₀ at₀ count₀ input out unused bench at count = (length input ≡ length input₀) × (length out ≡ length out₀) × Unused (unused .from) (unused .to) (length input)
 
 abbrev μ-loop : tie.MeasureT-loop
-μ-loop input₀ out₀ held₀ bench₀ at₀ count₀ input out held bench at count = 18446744073709551615 - count
+μ-loop input₀ out₀ unused₀ bench₀ at₀ count₀ input out unused bench at count = 18446744073709551615 - count
 
 loop-holds : tie.Need-loop-holds Inv-loop μ-loop
 loop-holds c = (refl, refl, c .before .before .before .pre)
 
-add-held : tie.Need-add-held Inv-loop μ-loop
-add-held c =
+add-unused : tie.Need-add-unused Inv-loop μ-loop
+add-unused c =
     let r = c .before .before .before .before .before .before .before .before .before .ready in
     omega (arith, at-most (r .result .to - r .result .from) (drop (r .result .from) (r .last .0)), c .before .before .before .step .ensures .1 .1, r .ensures)
 
@@ -40,7 +40,7 @@ loop-again c =
 
 pub calls-spec : {M : Type 1} → statement M
 calls-spec =
-    tie.close (tie.spec Inv-loop μ-loop (λ c κs. search needs) loop-holds (λ c κs. search needs) (λ c. search needs) (λ c. search needs) (λ c. search needs) (λ c κs. search needs) add-held same-length
+    tie.close (tie.spec Inv-loop μ-loop (λ c κs. search needs) loop-holds (λ c κs. search needs) (λ c. search needs) (λ c. search needs) (λ c. search needs) (λ c κs. search needs) add-unused same-length
     same-length-2 (λ c. search needs) (λ c κs. search needs)
     (λ c. record { fits = omega (arith, c .before .before .before .before .before .before .before .before .before .before .before .before .before .before .before .before .loop-test .taken) })
     (λ c. omega (arith, c .before .before .before .before .before .before .before .before .before .before .before .before .before .before .before .before .loop-test .taken)) loop-again

@@ -6,14 +6,8 @@ use borrow.Author.Needs.{needs}
 use Rattle.against_double.proofs.Worst.passes.Statement.{statement}
 use Rattle.against_double.proofs.Worst.passes.Tie as tie
 
-fewer-requires : tie.Need-fewer-requires
-fewer-requires c κs = search needs
-
-fewer-requires-2 : tie.Need-fewer-requires-2
-fewer-requires-2 c κs = search needs
-
 returns : tie.Need-returns
 returns c = ap (λ (n : ℕ). leb 20 n) (c .fewer2 .ensures ∙ ap (λ (n : ℕ). min n (c .before .before .args .self .samples)) (c .before .fewer .ensures))
 
 pub passes-spec : {M : Type 1} → statement M
-passes-spec = tie.close (tie.spec fewer-requires fewer-requires-2 returns)
+passes-spec = tie.close (tie.spec (λ c κs. search needs) (λ c κs. search needs) returns)

@@ -17,8 +17,5 @@ returns : tie.Need-returns
 unfolding div ofBits
 returns c = sym (is-nan (ofBits binary64 (c .before .args .bits)) (sym (nanBits-is binary64 (c .before .args .bits)) ∙ nanBits-above binary64 (c .before .args .bits) ∙ lt-ltb _ _ (c .if1 .taken)))
 
-returns-2 : tie.Need-returns-2
-returns-2 c = search needs
-
 pub double-spec : {M : Type 1} → statement M
-double-spec = tie.close (tie.spec float-from-bits-result returns returns-2)
+double-spec = tie.close (tie.spec float-from-bits-result returns (λ c. search needs))

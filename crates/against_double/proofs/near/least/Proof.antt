@@ -29,12 +29,6 @@ shared-slice-read-near c = omega arith
 sum-requires : tie.Need-sum-requires Inv-loop μ-loop
 sum-requires c κs = omega arith
 
-near-requires : tie.Need-near-requires Inv-loop μ-loop
-near-requires c κs = search needs
-
-fewer-requires : tie.Need-fewer-requires Inv-loop μ-loop
-fewer-requires c κs = search needs
-
 add-i : tie.Need-add-i Inv-loop μ-loop
 add-i c = omega arith
 
@@ -55,4 +49,4 @@ returns c = c .before .loop .inv .1 ∙ ap (λ (n : ℕ). least (c .before .befo
 
 pub least-spec : {M : Type 1} → statement M
 least-spec =
-    tie.close (tie.spec Inv-loop μ-loop loop-holds mul-near shared-slice-read-near sum-requires near-requires fewer-requires add-i loop-less loop-again returns)
+    tie.close (tie.spec Inv-loop μ-loop loop-holds mul-near shared-slice-read-near sum-requires (λ c κs. search needs) (λ c κs. search needs) add-i loop-less loop-again returns)

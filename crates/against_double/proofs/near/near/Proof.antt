@@ -6,19 +6,9 @@ use borrow.Author.Needs.{needs}
 use Rattle.against_double.proofs.near.near.Statement.{statement}
 use Rattle.against_double.proofs.near.near.Tie as tie
 
-f32-to-f64-with-nan-requires : tie.Need-f32-to-f64-with-nan-requires
-f32-to-f64-with-nan-requires c κs = search needs
-
-magnitude-requires : tie.Need-magnitude-requires
-magnitude-requires c κs = search needs
-
-doublings-requires : tie.Need-doublings-requires
-doublings-requires c κs = search needs
-
 returns : tie.Need-returns
 returns c = c .doublings .ensures
     ∙ ap (λ (d : Float). doublings 60 d (c .before .before .before .args .p)) (c .before .magnitude .ensures ∙ ap (λ (x : Float). magnitude (sub binary64 x (c .before .before .before .args .s))) (c .before .before .f32-to-f64-with-nan .ensures))
 
 pub near-spec : {M : Type 1} → statement M
-near-spec =
-    tie.close (tie.spec f32-to-f64-with-nan-requires magnitude-requires doublings-requires returns)
+near-spec = tie.close (tie.spec (λ c κs. search needs) (λ c κs. search needs) (λ c κs. search needs) returns)

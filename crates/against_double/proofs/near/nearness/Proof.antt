@@ -7,14 +7,8 @@ use borrow.Author.Needs.{needs}
 use Rattle.against_double.proofs.near.nearness.Statement.{statement}
 use Rattle.against_double.proofs.near.nearness.Tie as tie
 
-peak-requires : tie.Need-peak-requires
-peak-requires c κs = search needs
-
-least-requires : tie.Need-least-requires
-least-requires c κs = search needs
-
 returns : tie.Need-returns
 returns c = c .least .ensures ∙ ap (λ (p : Float). least (c .before .before .before .before .args .values .now) (c .before .before .before .before .args .b .now) p (length (c .before .before .before .before .args .values .now))) (c .before .peak .ensures)
 
 pub nearness-spec : {M : Type 1} → statement M
-nearness-spec = tie.close (tie.spec peak-requires least-requires returns)
+nearness-spec = tie.close (tie.spec (λ c κs. search needs) (λ c κs. search needs) returns)

@@ -22,12 +22,6 @@ loop-holds c = (omega arith, refl)
 sum-requires : tie.Need-sum-requires Inv-loop μ-loop
 sum-requires c κs = omega arith
 
-magnitude-requires : tie.Need-magnitude-requires Inv-loop μ-loop
-magnitude-requires c κs = search needs
-
-larger-requires : tie.Need-larger-requires Inv-loop μ-loop
-larger-requires c κs = search needs
-
 add-i : tie.Need-add-i Inv-loop μ-loop
 add-i c = omega arith
 
@@ -48,4 +42,4 @@ returns c = c .before .loop .inv .1 ∙ ap (λ (n : ℕ). peak (c .before .befor
 
 pub peak-spec : {M : Type 1} → statement M
 peak-spec =
-    tie.close (tie.spec Inv-loop μ-loop loop-holds sum-requires magnitude-requires larger-requires add-i loop-less loop-again returns)
+    tie.close (tie.spec Inv-loop μ-loop loop-holds sum-requires (λ c κs. search needs) (λ c κs. search needs) add-i loop-less loop-again returns)

@@ -7,21 +7,10 @@ use borrow.Author.Needs.{needs}
 use Rattle.against_double.proofs.near.sum.Statement.{statement}
 use Rattle.against_double.proofs.near.sum.Tie as tie
 
-mul-rest : tie.Need-mul-rest
-mul-rest c = search needs
-
-rest-requires : tie.Need-rest-requires
-rest-requires c κs = search needs
-
-long-requires : tie.Need-long-requires
-long-requires c κs = search needs
-
-double-requires : tie.Need-double-requires
-double-requires c κs = search needs
-
 returns : tie.Need-returns
 unfolding sumOf
 returns c = c .double .ensures ∙ ap (λ (n : ℕ). ofBits binary64 n) (c .before .long .ensures ∙ ap long (c .before .before .rest .ensures))
 
 pub sum-spec : {M : Type 1} → statement M
-sum-spec = tie.close (tie.spec mul-rest rest-requires long-requires double-requires returns)
+sum-spec =
+    tie.close (tie.spec (λ c. search needs) (λ c κs. search needs) (λ c κs. search needs) (λ c κs. search needs) returns)

@@ -3,11 +3,11 @@ use mathlib.Core.Path.{sym, ap, _∙_}
 use mathlib.Core.List.{List}
 use Prim.Native.Nat.{_+_, _*_, _≤_, _<_}
 use native.Mathlib.Omega.{arith}
-use lib.ListN.{getD, List·getD-eq-default}
+use lib.ListN.{length, getD, List·getD-eq-default}
 use Rattle.call_log.specs.Log.{rows, fieldOf}
 use Rattle.call_log.specs.declared.layout.Field.{Field}
-use Rattle.call_log.specs.declared.layout.Field.the-variants.{Nothing, Unknown}
-use Rattle.call_log.proofs.Fields.{getD-any}
+use Rattle.call_log.specs.declared.layout.Field.the-variants.{Unknown}
+use Rattle.call_log.proofs.Fields.{row-field}
 use borrow.Author.Needs.{needs}
 use Rattle.call_log.proofs.layout.field_of.Statement.{statement}
 use Rattle.call_log.proofs.layout.field_of.Tie as tie
@@ -19,28 +19,17 @@ returns c =
     let h : 90 ≤ 6 * a .kind + a .i = omega arith in
     sym (List·getD-eq-default rows Unknown h)
 
-rows-requires : tie.Need-rows-requires
-rows-requires c κs = search needs
-
-mul-result : tie.Need-mul-result
-mul-result c = search needs
-
-add-result : tie.Need-add-result
-add-result c = search needs
-
-mul-result-2 : tie.Need-mul-result-2
-mul-result-2 c = search needs
-
-array-copy-out-result : tie.Need-array-copy-out-result
-array-copy-out-result c = search needs
-
 returns-2 : tie.Need-returns-2
-unfolding fieldOf rows
+unfolding fieldOf
 returns-2 c =
-    let a = c .before .before .before .args in
-    let h : 6 * a .kind + a .i < 90 = omega arith in
-    ap (λ (l : List Field). getD l (6 * a .kind + a .i) Nothing) (c .before .rows .ensures) ∙ getD-any rows (6 * a .kind + a .i) Nothing Unknown h
+    let a = c .before .before .before .before .args in
+    let all = c .before .before .rows in
+    let h : a .kind < length (all .result) = omega (arith, all .ensures .1) in
+    c .field .ensures ∙ row-field (all .result) (a .kind) (a .i) _ h (omega arith) ∙ ap (λ (l : List Field). getD l (6 * a .kind + a .i) Unknown) (all .ensures .0)
+
+-- the needs without a name, for any answer: a wrong one hides none of them
+safe : tie.Need-returns → tie.Need-returns-2 → {M : Type 1} → statement M
+safe returns returns-2 = tie.close (tie.spec returns (λ c κs. search needs) (λ c. search needs) (λ c. search needs) (λ c κs. search needs) returns-2)
 
 pub field-of-spec : {M : Type 1} → statement M
-field-of-spec =
-    tie.close (tie.spec returns rows-requires mul-result add-result mul-result-2 array-copy-out-result returns-2)
+field-of-spec = safe returns returns-2

@@ -9,27 +9,19 @@ use Rattle.call_made.proofs.Bench.made.Tie as tie
 
 returns : tie.Need-returns
 unfolding made
-returns c =
-    let a = c .before .before .before .before .args in
-    c .analysed .ensures ∙ ap (withAnalysis (a .self)) (c .before .clear-analysis .ensures) ∙ ap (λ (k : ℕ). made (a .self) k (a .b .now)) (sym (c .before .before .match .keys1))
+returns c = simp (c .analysed .ensures, c .before .clear-analysis .ensures, c .before .before .match .keys1)
 
 returns-2 : tie.Need-returns-2
 unfolding made
-returns-2 c =
-    let a = c .before .before .before .before .args in
-    c .analysed2 .ensures ∙ ap (withAnalysis (a .self)) (c .before .analyse .ensures) ∙ ap (λ (k : ℕ). made (a .self) k (a .b .now)) (sym (c .before .before .match .keys2))
+returns-2 c = simp (c .analysed2 .ensures, c .before .analyse .ensures, c .before .before .match .keys2)
 
 returns-3 : tie.Need-returns-3
 unfolding made
-returns-3 c =
-    let a = c .before .before .before .before .args in
-    c .analysed3 .ensures ∙ ap (withAnalysis (a .self)) (c .before .set-analysis .ensures) ∙ ap (λ (k : ℕ). made (a .self) k (a .b .now)) (sym (c .before .before .match .keys3))
+returns-3 c = simp (c .analysed3 .ensures, c .before .set-analysis .ensures, c .before .before .match .keys3)
 
 returns-4 : tie.Need-returns-4
 unfolding made
-returns-4 c =
-    let a = c .before .before .before .before .args in
-    c .analysed4 .ensures ∙ ap (withAnalysis (a .self)) (c .before .frame .ensures .0) ∙ ap (λ (k : ℕ). made (a .self) k (a .b .now)) (sym (c .before .before .match .keys4))
+returns-4 c = simp (c .analysed4 .ensures, c .before .frame .ensures .0, c .before .before .match .keys4)
 
 returns-5 : tie.Need-returns-5
 unfolding made

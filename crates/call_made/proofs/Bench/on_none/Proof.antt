@@ -9,33 +9,23 @@ use Rattle.call_made.proofs.Bench.on_none.Tie as tie
 
 returns : tie.Need-returns
 unfolding onNone
-returns c =
-    let a = c .before .before .before .before .args in
-    c .answered .ensures ∙ ap (withAnswer (a .self)) (c .before .fft .ensures) ∙ ap (λ (k : ℕ). onNone (a .self) k (a .b .now)) (sym (c .before .before .match .keys1))
+returns c = simp (c .answered .ensures, c .before .fft .ensures, c .before .before .match .keys1)
 
 returns-2 : tie.Need-returns-2
 unfolding onNone
-returns-2 c =
-    let a = c .before .before .before .before .args in
-    c .answered2 .ensures ∙ ap (withAnswer (a .self)) (c .before .dct .ensures) ∙ ap (λ (k : ℕ). onNone (a .self) k (a .b .now)) (sym (c .before .before .match .keys2))
+returns-2 c = simp (c .answered2 .ensures, c .before .dct .ensures, c .before .before .match .keys2)
 
 returns-3 : tie.Need-returns-3
 unfolding onNone
-returns-3 c =
-    let a = c .before .before .before .before .args in
-    c .answered3 .ensures ∙ ap (withAnswer (a .self)) (c .before .loudest .ensures) ∙ ap (λ (k : ℕ). onNone (a .self) k (a .b .now)) (sym (c .before .before .match .keys3))
+returns-3 c = simp (c .answered3 .ensures, c .before .loudest .ensures, c .before .before .match .keys3)
 
 returns-4 : tie.Need-returns-4
 unfolding onNone
-returns-4 c =
-    let a = c .before .before .before .before .args in
-    c .answered4 .ensures ∙ ap (withAnswer (a .self)) (c .before .measure .ensures) ∙ ap (λ (k : ℕ). onNone (a .self) k (a .b .now)) (sym (c .before .before .match .keys4))
+returns-4 c = simp (c .answered4 .ensures, c .before .measure .ensures, c .before .before .match .keys4)
 
 returns-5 : tie.Need-returns-5
 unfolding onNone
-returns-5 c =
-    let a = c .before .before .before .before .args in
-    c .answered5 .ensures ∙ ap (withAnswer (a .self)) (c .before .ask .ensures) ∙ ap (λ (k : ℕ). onNone (a .self) k (a .b .now)) (sym (c .before .before .match .keys5))
+returns-5 c = simp (c .answered5 .ensures, c .before .ask .ensures, c .before .before .match .keys5)
 
 returns-6 : tie.Need-returns-6
 unfolding onNone

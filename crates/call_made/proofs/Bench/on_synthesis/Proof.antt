@@ -9,21 +9,15 @@ use Rattle.call_made.proofs.Bench.on_synthesis.Tie as tie
 
 returns : tie.Need-returns
 unfolding onSynthesis
-returns c =
-    let a = c .before .before .before .before .args in
-    c .played .ensures ∙ ap (withSynthesis (a .self)) (c .before .clear-synthesis .ensures) ∙ ap (λ (k : ℕ). onSynthesis (a .self) k (a .b .now)) (sym (c .before .before .match .keys1))
+returns c = simp (c .played .ensures, c .before .clear-synthesis .ensures, c .before .before .match .keys1)
 
 returns-2 : tie.Need-returns-2
 unfolding onSynthesis
-returns-2 c =
-    let a = c .before .before .before .before .args in
-    c .played2 .ensures ∙ ap (withSynthesis (a .self)) (c .before .play .ensures) ∙ ap (λ (k : ℕ). onSynthesis (a .self) k (a .b .now)) (sym (c .before .before .match .keys2))
+returns-2 c = simp (c .played2 .ensures, c .before .play .ensures, c .before .before .match .keys2)
 
 returns-3 : tie.Need-returns-3
 unfolding onSynthesis
-returns-3 c =
-    let a = c .before .before .before .before .args in
-    c .played3 .ensures ∙ ap (withSynthesis (a .self)) (c .before .set-synthesis .ensures) ∙ ap (λ (k : ℕ). onSynthesis (a .self) k (a .b .now)) (sym (c .before .before .match .keys3))
+returns-3 c = simp (c .played3 .ensures, c .before .set-synthesis .ensures, c .before .before .match .keys3)
 
 returns-4 : tie.Need-returns-4
 unfolding onSynthesis

@@ -14,15 +14,6 @@ use Rattle.listing.proofs.Lister.frame.Tie as tie
 abbrev made : ℕ → Listened → Text → ℕ → Stepped
 made n m t k = record { text = t; used = n; lister = record { channel = m .channel; count = k } }
 
-listen-to-requires : tie.Need-listen-to-requires
-listen-to-requires c κs = search needs
-
-frame-line-requires : tie.Need-frame-line-requires
-frame-line-requires c κs = search needs
-
-one-more-requires : tie.Need-one-more-requires
-one-more-requires c κs = search needs
-
 returns : tie.Need-returns
 returns c =
     let a = c .before .before .before .before .before .before .args in
@@ -31,4 +22,4 @@ returns c =
     ap₂ (made n m) (c .before .before .frame-line .ensures) (c .one-more .ensures) ∙ ap (framed (a .self) n) (c .before .before .before .listen-to .ensures)
 
 pub frame-spec : {M : Type 1} → statement M
-frame-spec = tie.close (tie.spec listen-to-requires frame-line-requires one-more-requires returns)
+frame-spec = tie.close (tie.spec (λ c κs. search needs) (λ c κs. search needs) (λ c κs. search needs) returns)

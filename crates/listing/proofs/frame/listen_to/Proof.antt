@@ -13,12 +13,6 @@ use borrow.Author.Needs.{needs}
 use Rattle.listing.proofs.frame.listen_to.Statement.{statement}
 use Rattle.listing.proofs.frame.listen_to.Tie as tie
 
-nf-requires : tie.Need-nf-requires
-nf-requires c κs = search needs
-
-silence-requires : tie.Need-silence-requires
-silence-requires c κs = search needs
-
 array-borrow-prefix-samples : tie.Need-array-borrow-prefix-samples
 array-borrow-prefix-samples c =
     let s = sound (c .before .before .before .args .channel .config) (c .before .before .before .pre .0) in
@@ -48,9 +42,6 @@ slice-aggregate-listen c =
     let k = c .before .before .decode .kept .1 .0 ∙ e in
     sym (ap length (take-at (c .before .before .decode .last .1 .0) (drop (c .before .before .before .before .before .nf .result) (c .before .before .before .before .silence .result)) (c .before .before .before .before .before .nf .result) k) ∙ k)
 
-listen-requires : tie.Need-listen-requires
-listen-requires c κs = search needs
-
 returns : tie.Need-returns
 returns c =
     let a = c .before .before .before .before .before .before .before .before .args in
@@ -66,4 +57,5 @@ returns c =
 
 pub listen-to-spec : {M : Type 1} → statement M
 listen-to-spec =
-    tie.close (tie.spec nf-requires silence-requires array-borrow-prefix-samples slice-aggregate-decode decode-requires array-share-prefix-samples slice-aggregate-listen listen-requires returns)
+    tie.close (tie.spec (λ c κs. search needs) (λ c κs. search needs) array-borrow-prefix-samples slice-aggregate-decode decode-requires array-share-prefix-samples slice-aggregate-listen
+    (λ c κs. search needs) returns)

@@ -16,37 +16,16 @@ Inv-loop out₀ at n bytes i₀ out i = (i ≤ n) × (n ≤ 64) × (length bytes
 abbrev μ-loop : tie.MeasureT-loop
 μ-loop out₀ at n bytes i₀ out i = n - i
 
-size-requires : tie.Need-size-requires Inv-loop μ-loop
-size-requires c κs = search needs
-
 loop-holds : tie.Need-loop-holds Inv-loop μ-loop
 loop-holds c =
     let a = c .before .before .before .args in
     (omega arith, omega (arith, c .before .size .ensures), search needs, refl, paste-zero (a .out .now) (a .at) (a .self .bytes))
-
-array-read-out : tie.Need-array-read-out Inv-loop μ-loop
-array-read-out c = search needs
-
-add-out : tie.Need-add-out Inv-loop μ-loop
-add-out c = search needs
-
-slice-write-out : tie.Need-slice-write-out Inv-loop μ-loop
-slice-write-out c = search needs
-
-add-i : tie.Need-add-i Inv-loop μ-loop
-add-i c = search needs
-
-loop-less : tie.Need-loop-less Inv-loop μ-loop
-loop-less c = search needs
 
 loop-again : tie.Need-loop-again Inv-loop μ-loop
 loop-again c =
     let a = c .before .before .before .before .before .args in
     let l = c .before .loop in
     (omega arith, l .inv .1, l .inv .2, simp length-set (l .inv .3), ap (λ (m : List ℕ). set m (a .at + l .i) (getD (a .self .bytes) (l .i) 0)) (l .inv .4) ∙ paste-suc (a .out .now) (a .at) (a .self .bytes) (l .i) 0 (omega arith) (omega arith) ∙ ap (paste (a .out .now) (a .at) (a .self .bytes)) (sym (add-one (l .i))))
-
-add-result : tie.Need-add-result Inv-loop μ-loop
-add-result c = search needs
 
 same-length : tie.Need-same-length Inv-loop μ-loop
 same-length c = c .before .loop .inv .3
@@ -59,4 +38,5 @@ returns c =
 
 pub copy-to-spec : {M : Type 1} → statement M
 copy-to-spec =
-    tie.close (tie.spec Inv-loop μ-loop size-requires loop-holds array-read-out add-out slice-write-out add-i loop-less loop-again add-result same-length returns)
+    tie.close (tie.spec Inv-loop μ-loop (λ c κs. search needs) loop-holds (λ c. search needs) (λ c. search needs) (λ c. search needs) (λ c. search needs) (λ c. search needs) loop-again
+    (λ c. search needs) same-length returns)

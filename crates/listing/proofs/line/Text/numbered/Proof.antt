@@ -13,9 +13,6 @@ use borrow.Author.Needs.{needs}
 use Rattle.listing.proofs.line.Text.numbered.Statement.{statement}
 use Rattle.listing.proofs.line.Text.numbered.Tie as tie
 
-with-number-requires : tie.Need-with-number-requires
-with-number-requires c κs = search needs
-
 with-bytes-requires : tie.Need-with-bytes-requires
 with-bytes-requires c κs =
     let a = c .before .before .args in
@@ -29,4 +26,4 @@ returns c =
     c .with-bytes .ensures ∙ ap (λ (t : Text). with t (a .s .now)) (c .before .with-number .ensures) ∙ with-with (a .self) (decimal (a .n)) (a .s .now) (omega (arith, c .before .before .before .pre))
 
 pub numbered-spec : {M : Type 1} → statement M
-numbered-spec = tie.close (tie.spec with-number-requires with-bytes-requires returns)
+numbered-spec = tie.close (tie.spec (λ c κs. search needs) with-bytes-requires returns)

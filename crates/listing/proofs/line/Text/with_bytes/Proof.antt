@@ -9,12 +9,6 @@ use borrow.Author.Needs.{needs}
 use Rattle.listing.proofs.line.Text.with_bytes.Statement.{statement}
 use Rattle.listing.proofs.line.Text.with_bytes.Tie as tie
 
-put-requires : tie.Need-put-requires
-put-requires c κs = search needs
-
-add-t7 : tie.Need-add-t7
-add-t7 c = search needs
-
 returns : tie.Need-returns
 unfolding with
 returns c =
@@ -22,4 +16,4 @@ returns c =
     ap (λ (b : List ℕ). made b (a .self .len + length (a .s .now))) (c .put .ensures)
 
 pub with-bytes-spec : {M : Type 1} → statement M
-with-bytes-spec = tie.close (tie.spec put-requires add-t7 returns)
+with-bytes-spec = tie.close (tie.spec (λ c κs. search needs) (λ c. search needs) returns)

@@ -10,15 +10,6 @@ use borrow.Author.Needs.{needs}
 use Rattle.listing.proofs.line.Text.with_number.Statement.{statement}
 use Rattle.listing.proofs.line.Text.with_number.Tie as tie
 
-decimal-requires : tie.Need-decimal-requires
-decimal-requires c κs = search needs
-
-array-share-prefix-digits : tie.Need-array-share-prefix-digits
-array-share-prefix-digits c = search needs
-
-slice-aggregate-with-bytes : tie.Need-slice-aggregate-with-bytes
-slice-aggregate-with-bytes c = search needs
-
 with-bytes-requires : tie.Need-with-bytes-requires
 with-bytes-requires c κs =
     let n = c .before .before .before .args .n in
@@ -35,4 +26,4 @@ returns c =
 
 pub with-number-spec : {M : Type 1} → statement M
 with-number-spec =
-    tie.close (tie.spec decimal-requires array-share-prefix-digits slice-aggregate-with-bytes with-bytes-requires returns)
+    tie.close (tie.spec (λ c κs. search needs) (λ c. search needs) (λ c. search needs) with-bytes-requires returns)
