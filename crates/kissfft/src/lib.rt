@@ -50,46 +50,28 @@ fn judge(size: usize, x: &[f32], y: &[f32], c: usize, d: usize) -> Verdict
     ensures { λ r. ⌜ r ≡ verdict size (now (x .entry)) (now (y .entry)) c d ⌝ }
 {
     if !config::is_fft_size(size) {
-        return Verdict {
-            number: 2,
-            index: 0,
-        };
+        return Verdict::told(refusals::BAD_SIZE);
     }
     if x.len() != size {
-        return Verdict {
-            number: 3,
-            index: 0,
-        };
+        return Verdict::told(refusals::BAD_INPUT);
     }
     if y.len() != size {
-        return Verdict {
-            number: 3,
-            index: 0,
-        };
+        return Verdict::told(refusals::BAD_INPUT);
     }
     if c != size {
-        return Verdict {
-            number: 4,
-            index: 0,
-        };
+        return Verdict::told(refusals::BAD_OUTPUT);
     }
     if d != size {
-        return Verdict {
-            number: 4,
-            index: 0,
-        };
+        return Verdict::told(refusals::BAD_OUTPUT);
     }
     let bad = first_bad(x, y);
     if bad < size {
         return Verdict {
-            number: 6,
+            number: refusals::BAD_VALUE,
             index: bad,
         };
     }
-    Verdict {
-        number: 0,
-        index: 0,
-    }
+    Verdict::told(refusals::ACCEPTED)
 }
 
 // The transform with the plan of its size and the table of its direction: the real parts, then the imaginary parts.
@@ -178,7 +160,7 @@ pub fn fft(
     ensures { λ r. ⌜ outcome r (now («re_out» .exit)) (now («im_out» .exit)) ≡ answer size inverse (now («re_in» .entry)) (now («im_in» .entry)) (now («re_out» .entry)) (now («im_out» .entry)) ⌝ }
 {
     let v = judge(size, re_in, im_in, re_out.len(), im_out.len());
-    if v.number != 0 {
+    if v.number != refusals::ACCEPTED {
         return v;
     }
     run(re_out, im_out, re_in, im_in, inverse);
