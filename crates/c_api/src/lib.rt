@@ -62,7 +62,10 @@ pub extern "C" fn loamscarf_analysis_frame(
     ensures { λ r. ⌜ an.frames channel (an.lent (now (input .entry)) (now (lines .entry))) ≡ an.outcome r (now (lines .exit)) ⌝ }
 {
     let config = channel.config;
-    let mut framed = analysis::Framed { number: 0, channel };
+    let mut framed = analysis::Framed {
+        number: refusals::ACCEPTED,
+        channel,
+    };
     framed.number = analysis::frame_at(config, &mut framed.channel.samples, input, lines);
     framed
 }

@@ -191,10 +191,10 @@ pub fn header_number(h: Header) -> u8
     ensures { λ r. ⌜ r ≡ headerNumber h ⌝ }
 {
     match h {
-        Header::Good => 0,
-        Header::Short => 8,
-        Header::Unmarked => 9,
-        Header::Foreign => 10,
+        Header::Good => refusals::ACCEPTED,
+        Header::Short => refusals::SHORT_FILE,
+        Header::Unmarked => refusals::BAD_MARK,
+        Header::Foreign => refusals::BAD_VERSION,
     }
 }
 

@@ -11,6 +11,7 @@ ghost use Rattle.call_made.specs.Made.{floats, pastFloats, pastSamples, 
 use call_text::Extra;
 use loudest::Loudest;
 use near_nyquist::Asked;
+use refusals::ACCEPTED;
 
 // What a call answers: the numbers of its first line, and its output areas, m places of x, n of y and o of z, which are peaks or the number of bands read.
 pub struct Answer {
@@ -140,7 +141,7 @@ fn clear_analysis(old: analysis::Channel, b: &[u8]) -> Analysed
     ensures { λ r. ⌜ r ≡ clearAnalysis old (now (b .entry)) ⌝ }
 {
     let a = analysis::clear(call_log::byte_at(b, 1));
-    let channel = if a.number == 0 { a.channel } else { old };
+    let channel = if a.number == ACCEPTED { a.channel } else { old };
     analysed_as(channel, a.number)
 }
 
@@ -228,7 +229,7 @@ fn measure_after(config: u8, framed: Answer, lengths: &[u8]) -> Answer
     requires { ⌜ Places (framed .m) (framed .x) ⌝ }
     ensures { λ r. ⌜ r ≡ measureAfter config framed (now (lengths .entry)) ⌝ }
 {
-    if framed.number != 0 {
+    if framed.number != ACCEPTED {
         return with_peaks(
             framed.number,
             framed.index,
@@ -270,7 +271,7 @@ fn clear_synthesis(old: synthesis::Channel, b: &[u8]) -> Played
     ensures { λ r. ⌜ r ≡ clearSynthesis old (now (b .entry)) ⌝ }
 {
     let s = synthesis::clear(call_log::byte_at(b, 1));
-    let channel = if s.number == 0 { s.channel } else { old };
+    let channel = if s.number == ACCEPTED { s.channel } else { old };
     played_as(channel, s.number)
 }
 
@@ -459,7 +460,7 @@ pub fn fresh() -> Bench
 {
     let a = analysis::clear(255);
     let s = synthesis::clear(255);
-    bench_of(a.channel, s.channel, plain(0))
+    bench_of(a.channel, s.channel, plain(ACCEPTED))
 }
 
 impl Bench {

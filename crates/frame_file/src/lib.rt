@@ -76,11 +76,11 @@ pub fn header_number(found: Header) -> u8
     ensures { λ r. ⌜ r ≡ headerNumber found ⌝ }
 {
     match found {
-        Header::Good(_, _) => 0,
-        Header::Short => 8,
-        Header::Unmarked => 9,
-        Header::Foreign => 10,
-        Header::Unknown => 1,
+        Header::Good(_, _) => refusals::ACCEPTED,
+        Header::Short => refusals::SHORT_FILE,
+        Header::Unmarked => refusals::BAD_MARK,
+        Header::Foreign => refusals::BAD_VERSION,
+        Header::Unknown => refusals::BAD_CONFIG,
     }
 }
 
@@ -106,10 +106,10 @@ pub fn record_number(found: Record) -> u8
     ensures { λ r. ⌜ r ≡ recordNumber found ⌝ }
 {
     match found {
-        Record::Frame(_) => 0,
-        Record::End => 0,
-        Record::Cut => 11,
-        Record::Astray => 1,
+        Record::Frame(_) => refusals::ACCEPTED,
+        Record::End => refusals::ACCEPTED,
+        Record::Cut => refusals::CUT_FRAME,
+        Record::Astray => refusals::BAD_CONFIG,
     }
 }
 

@@ -217,7 +217,7 @@ fn calls(input: &mut [u8], out: &mut [u8], header: Input) -> usize
 fn run(input: &mut [u8], out: &mut [u8]) -> usize {
     let n = io::read_full(STDIN_FILENO, input);
     let number = call_log::header_number(call_log::read_header(&input[..n]));
-    if number != 0 {
+    if number != refusals::ACCEPTED {
         return call_text::put_last(out, 0, b"refused", number as u64);
     }
     let is_over = n < input.len();
