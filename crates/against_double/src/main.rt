@@ -1,4 +1,4 @@
-// Compares lines, energies and samples with the specification's sums in double precision, which tools/double_sums stored in data/sums. Prints for each
+// Compares lines, energies and samples with the specification's sums in double precision, which tools/gate/double_sums stored in data/sums. Prints for each
 // configuration the worst error of each kind as a power of two of its frame's peak, and `failed` before that where one is above 2^-20.
 ghost use mathlib.Core.Path.{_≡_};
 ghost use Prim.Native.Nat.{_≤_, min};

@@ -1,4 +1,4 @@
-// How near values computed in f32 are to sums in f64, which stand in bytes as tools/double_sums writes them. New in this port.
+// How near values computed in f32 are to sums in f64, which stand in bytes as tools/gate/double_sums writes them. New in this port.
 ghost use mathlib.Core.Path.{_≡_};
 ghost use Prim.Native.Nat.{_+_, _*_, _≤_, min};
 ghost use lib.ListN.{length, drop};
