@@ -8,9 +8,7 @@ use lib.IntN.{ℤ, pos}
 use lib.ListN.{length, take, drop, replicate, length-drop, length-replicate}
 use lib.Seq.{paste, take-length, take-at, drop-at, drop-append-add, drop-append-le}
 use Rattle.analysis_steps.specs.Buffer.{pastOf, bufferStep, bufferOf}
-
-abbrev pub quiet : ℕ → List ℤ
-quiet n = replicate n (pos 0)
+use Rattle.analysis_steps.specs.Runs.{quiet}
 
 drop-quiet : (n m : ℕ) → drop n (quiet m) ≡ quiet (m - n)
 drop-quiet zero m = ap quiet (sym (sub-zero m))

@@ -6,26 +6,14 @@ use native.Mathlib.Omega.{arith}
 use lib.IntN.{ℤ, pos}
 use lib.ListN.{length, getD, length-append, getD-replicate, List·getD-append}
 use lib.Seq.{getD-append-add}
-use lib.Ieee.{Float, binary32, sub, mul, neg, ofInt, ofBits}
+use lib.Ieee.{Float, binary32, sub, ofInt, ofBits}
 use Rattle.laws.specs.Lists.{tab}
-use Rattle.laws.specs.Numbers.{zero32}
 use Rattle.laws.proofs.Lists.{tab-ext}
 use Rattle.analysis_steps.specs.Buffer.{bufferStep, bufferOf}
 use Rattle.analysis_steps.specs.Fold.{weighed, foldLow, foldHigh, folded}
-use Rattle.analysis_steps.proofs.Buffers.{quiet, step-of}
+use Rattle.analysis_steps.specs.Runs.{quiet, low, lowAt, still}
+use Rattle.analysis_steps.proofs.Buffers.{step-of}
 use Rattle.analysis_steps.proofs.Parts.{rest, getD-rest}
-
--- how a first half joins two weighed samples
-abbrev pub low : Float → Float → Float
-low a b = sub binary32 (neg a) b
-
--- place i of a first half, backwards and forwards from place m
-abbrev pub lowAt : List ℤ → List ℕ → ℕ → ℕ → Float
-lowAt t w m i = low (weighed t w (m - 1 - i)) (weighed t w (m + i))
-
--- +0.0 by entry k
-abbrev pub still : List ℕ → ℕ → Float
-still w k = mul binary32 zero32 (ofBits binary32 (getD w k 0))
 
 -- place j of two lists, one behind the other, weighed: it is in the first, in the second, or in zeros
 module _ (a b : List ℤ) (w : List ℕ) (j k : ℕ) where

@@ -3,16 +3,15 @@
 // counted loops in place of iterators; and the time buffer is not made: the fold reads its places from the past and the frame.
 ghost use mathlib.Core.Path.{_≡_};
 ghost use mathlib.Core.List.{_++_};
-ghost use Prim.Native.Nat.{_+_, _-_, _*_, _/_, _≤_, _<_};
+ghost use Prim.Native.Nat.{_+_, _-_, _*_, _≤_, _<_};
 ghost use lib.IntN.{pos};
-ghost use lib.ListN.{length, getD, drop, replicate};
+ghost use lib.ListN.{length, drop, replicate};
 ghost use lib.Seq.{paste};
-ghost use lib.Ieee.{binary32, sub, mul, neg, ofBits};
+ghost use lib.Ieee.{binary32, sub};
 ghost use Rattle.laws.specs.Lists.{tab};
-ghost use Rattle.laws.specs.Numbers.{zero32};
 ghost use Rattle.windows.specs.Windows.{Numbers};
-ghost use Rattle.analysis_steps.specs.Buffer.{bufferOf, bufferStep};
-ghost use Rattle.analysis_steps.specs.Fold.{weighed, foldHigh, folded};
+ghost use Rattle.analysis_steps.specs.Fold.{weighed, foldHigh};
+ghost use Rattle.analysis_steps.specs.Runs.{quiet, low, lowAt, still, FoldFits, foldedOf};
 ghost use Rattle.gains.specs.Gains.{scaled};
 
 // The samples of src from place at of dst on.
@@ -65,8 +64,7 @@ fn weighed(t: &[i16], w: &[u32], k: usize) -> f32
 // A run of the fold that reads the frame alone, backwards and forwards from place from. The window is given from the frame's first place on.
 fn fold_frame(x: &[i16], w: &[u32], from: usize, out: &mut [f32])
     requires { ⌜ (length (now out) ≤ from) × (from + length (now out) ≤ length (now x)) × (length (now x) ≤ length (now w)) × Numbers (now w) ⌝ }
-    ensures { λ _. ⌜ now (out .exit) ≡ tab (length (now (out .entry))) (λ i.
-        sub binary32 (neg (weighed (now (x .entry)) (now (w .entry)) (from - 1 - i))) (weighed (now (x .entry)) (now (w .entry)) (from + i))) ⌝ }
+    ensures { λ _. ⌜ now (out .exit) ≡ tab (length (now (out .entry))) (lowAt (now (x .entry)) (now (w .entry)) from) ⌝ }
 {
     let mut i = 0;
     while i < out.len() {
@@ -79,8 +77,7 @@ fn fold_frame(x: &[i16], w: &[u32], from: usize, out: &mut [f32])
 fn fold_zeros(x: &[i16], w: &[u32], from: usize, out: &mut [f32])
     requires { ⌜ (length (now out) ≤ from) × (from ≤ length (now x)) × (length (now x) + length (now out) ≤ length (now w)) × Numbers (now w) ⌝ }
     ensures { λ _. ⌜ now (out .exit) ≡ tab (length (now (out .entry))) (λ i.
-        sub binary32 (neg (weighed (now (x .entry)) (now (w .entry)) (from - 1 - i)))
-        (mul binary32 zero32 (ofBits binary32 (getD (now (w .entry)) (length (now (x .entry)) + i) 0)))) ⌝ }
+        low (weighed (now (x .entry)) (now (w .entry)) (from - 1 - i)) (still (now (w .entry)) (length (now (x .entry)) + i))) ⌝ }
 {
     let mut i = 0;
     while i < out.len() {
@@ -114,9 +111,7 @@ fn fold_past(
 // The first half of the fold, from the frame x and the z zeros behind it. The window is given from the frame's first place on.
 fn fold_low(x: &[i16], w: &[u32], z: usize, out: &mut [f32])
     requires { ⌜ (z ≤ length (now out)) × (length (now x) ≡ 2 * length (now out)) × (length (now w) ≡ length (now x) + z) × Numbers (now w) ⌝ }
-    ensures { λ _. ⌜ now (out .exit) ≡ tab (length (now (out .entry))) (λ i.
-        sub binary32 (neg (weighed (now (x .entry) ++ replicate z (pos 0)) (now (w .entry)) (length (now (out .entry)) + z - 1 - i)))
-        (weighed (now (x .entry) ++ replicate z (pos 0)) (now (w .entry)) (length (now (out .entry)) + z + i))) ⌝ }
+    ensures { λ _. ⌜ now (out .exit) ≡ tab (length (now (out .entry))) (lowAt (now (x .entry) ++ quiet z) (now (w .entry)) (length (now (out .entry)) + z)) ⌝ }
 {
     let h = out.len();
     let a = h - z;
@@ -138,11 +133,8 @@ fn fold_high(past: &[i16], x: &[i16], w: &[u32], z: usize, out: &mut [f32])
 // Inner. The time buffer of 2 nf samples, which is the past, the frame and zeros, folded with the window w to nf values.
 // The buffer itself is not made: each place is read where it stands.
 pub fn fold(past: &[i16], input: &[i16], w: &[u32], out: &mut [f32])
-    requires { ⌜ (length (now out) ≤ 480) × (length (now out) ≡ 2 * (length (now out) / 2)) × (length (now input) ≡ length (now out))
-        × (length (now past) ≤ length (now out)) × (length (now out) - length (now past) ≤ length (now out) / 2)
-        × (length (now w) ≡ 2 * length (now out)) × Numbers (now w) ⌝ }
-    ensures { λ _. ⌜ now (out .exit) ≡ folded (length (now (out .entry))) (now (w .entry)) (bufferStep (length (now (out .entry))) (length (now (out .entry)) - length (now (past .entry)))
-        (bufferOf (length (now (out .entry))) (length (now (out .entry)) - length (now (past .entry))) (now (past .entry))) (now (input .entry))) ⌝ }
+    requires { ⌜ FoldFits (length (now out)) (now past) (now input) (now w) ⌝ }
+    ensures { λ _. ⌜ now (out .exit) ≡ foldedOf (length (now (out .entry))) (now (w .entry)) (now (past .entry)) (now (input .entry)) ⌝ }
 {
     let h = out.len() / 2;
     let p = past.len();

@@ -7,6 +7,7 @@ use native.Mathlib.Omega.{arith}
 use lib.ListN.{getD, take, drop}
 use lib.Ieee.{Float}
 use Rattle.laws.specs.Lists.{Rising}
+use Rattle.measurement_steps.specs.Singles.{Apart}
 use Rattle.measurement_steps.specs.Energy.{energy, bandOf}
 use Rattle.measurement_steps.specs.Peak.{peak, peakOf}
 use Rattle.measurement_steps.proofs.Peaks.{lone-peak}
@@ -45,10 +46,6 @@ module _ (es : List ℕ) (ls : List Float) (b i : ℕ) (from : i ≡ getD es b 0
   lone-place =
       let none : peak (bandOf es ls b) ≡ 0 = ap peak (sym lone) ∙ lone-peak (drop i ls) in
       omega arith
-
--- the edge at b and the four behind it are a line apart each
-abbrev pub Apart : List ℕ → ℕ → Type 0
-Apart edges b = (k : ℕ) → k < 5 → getD edges (b + k) 0 ≡ getD edges b 0 + k
 
 module _ (edges : List ℕ) (b : ℕ) (h : Apart edges b) where
   next : (k : ℕ) → k < 4 → getD edges (b + k + 1) 0 ≡ getD edges b 0 + k + 1

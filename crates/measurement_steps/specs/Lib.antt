@@ -1,2 +1,3 @@
 pub mod Energy
 pub mod Peak
+pub mod Singles

@@ -10,6 +10,7 @@ ghost use lib.Seq.{sets};
 ghost use lib.Ieee.{Float, nan};
 ghost use Rattle.laws.specs.Lists.{tab, Rising};
 ghost use Rattle.measurement_steps.specs.Energy.{energy, bandOf, energies, total, exceeds};
+ghost use Rattle.measurement_steps.specs.Singles.{Apart, Fours, begun};
 ghost use Rattle.measurement_steps.specs.Peak.{square, peakOf, peaks, higher, upTo, whole, placed};
 
 // What a band has come to: the sum of its lines' shares, the first line with the greatest product, and that product.
@@ -184,8 +185,7 @@ fn single(lines: &[f32], from: usize, out: &mut [f32], places: &mut [usize], b: 
 // Whether the four bands from b on are of one line each: each has a line, so the last edge tells.
 fn apart(edges: &[usize], b: usize) -> bool
     requires { ⌜ (b + 4 < length (now edges)) × Rising (b + 4) (now edges) 480 ⌝ }
-    ensures { λ r. ⌜ (r ≡ true → (k : ℕ) → k < 5 → getD (now (edges .entry)) (b + k) 0 ≡ getD (now (edges .entry)) b 0 + k)
-        × (r ≡ false → ((k : ℕ) → k < 5 → getD (now (edges .entry)) (b + k) 0 ≡ getD (now (edges .entry)) b 0 + k) → ⊥) ⌝ }
+    ensures { λ r. ⌜ (r ≡ true → Apart (now (edges .entry)) b) × (r ≡ false → Apart (now (edges .entry)) b → ⊥) ⌝ }
 {
     edges[b + 4] == edges[b] + 4
 }
@@ -193,11 +193,9 @@ fn apart(edges: &[usize], b: usize) -> bool
 // The first bands, by fours as long as these are of one line each; and by how many fours.
 fn singles(lines: &[f32], edges: &[usize], out: &mut [f32], places: &mut [usize]) -> usize
     requires { ⌜ (length (now lines) ≤ 480) × (length (now out) < length (now edges)) × (length (now places) ≡ length (now out)) × Rising (length (now out)) (now edges) (length (now lines)) ⌝ }
-    ensures { λ r. ⌜ (r ≤ length (now (out .entry)) / 4)
-        × ((q : ℕ) → q < r → (k : ℕ) → k < 5 → getD (now (edges .entry)) (4 * q + k) 0 ≡ getD (now (edges .entry)) (4 * q) 0 + k)
-        × (r < length (now (out .entry)) / 4 → ((k : ℕ) → k < 5 → getD (now (edges .entry)) (4 * r + k) 0 ≡ getD (now (edges .entry)) (4 * r) 0 + k) → ⊥)
-        × (now (out .exit) ≡ tab (4 * r) (λ b. energy (bandOf (now (edges .entry)) (now (lines .entry)) b)) ++ drop (4 * r) (now (out .entry)))
-        × (now (places .exit) ≡ tab (4 * r) (peakOf (now (edges .entry)) (now (lines .entry))) ++ drop (4 * r) (now (places .entry))) ⌝ }
+    ensures { λ r. ⌜ Fours (length (now (out .entry))) (now (edges .entry)) r
+        × (now (out .exit) ≡ begun (4 * r) (λ b. energy (bandOf (now (edges .entry)) (now (lines .entry)) b)) (now (out .entry)))
+        × (now (places .exit) ≡ begun (4 * r) (peakOf (now (edges .entry)) (now (lines .entry))) (now (places .entry))) ⌝ }
 {
     let mut q = 0;
     while q < out.len() / 4 {

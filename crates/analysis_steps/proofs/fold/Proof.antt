@@ -7,9 +7,9 @@ use lib.ListN.{length}
 use lib.Seq.{length-take-le}
 use borrow.Author.Needs.{needs}
 use Rattle.analysis_steps.specs.Fold.{foldHigh}
-use Rattle.analysis_steps.proofs.Buffers.{quiet}
+use Rattle.analysis_steps.specs.Runs.{quiet, lowAt}
 use Rattle.analysis_steps.proofs.Parts.{rest, length-rest, numbers-rest, two-parts}
-use Rattle.analysis_steps.proofs.Folds.{lowAt, halves}
+use Rattle.analysis_steps.proofs.Folds.{halves}
 use Rattle.analysis_steps.proofs.fold.Statement.{statement}
 use Rattle.analysis_steps.proofs.fold.Tie as tie
 

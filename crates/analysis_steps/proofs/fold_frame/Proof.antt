@@ -6,7 +6,7 @@ use lib.ListN.{length}
 use lib.Ieee.{nan}
 use borrow.Author.Needs.{needs}
 use Rattle.laws.proofs.Lists.{Filled, filled-none, filled-more, filled-all}
-use Rattle.analysis_steps.proofs.Folds.{low, lowAt}
+use Rattle.analysis_steps.specs.Runs.{low, lowAt}
 use Rattle.analysis_steps.proofs.fold_frame.Statement.{statement}
 use Rattle.analysis_steps.proofs.fold_frame.Tie as tie
 

@@ -7,9 +7,9 @@ use lib.ListN.{length}
 use lib.Seq.{length-take-le}
 use borrow.Author.Needs.{needs}
 use Rattle.analysis_steps.specs.Fold.{weighed}
-use Rattle.analysis_steps.proofs.Buffers.{quiet}
+use Rattle.analysis_steps.specs.Runs.{quiet, low, lowAt, still}
 use Rattle.analysis_steps.proofs.Parts.{runs, two-parts}
-use Rattle.analysis_steps.proofs.Folds.{low, lowAt, still, frame-run, zeros-run}
+use Rattle.analysis_steps.proofs.Folds.{frame-run, zeros-run}
 use Rattle.analysis_steps.proofs.fold_low.Statement.{statement}
 use Rattle.analysis_steps.proofs.fold_low.Tie as tie
 

@@ -8,7 +8,7 @@ use borrow.Author.Needs.{needs}
 use Rattle.laws.specs.Numbers.{zero32}
 use Rattle.laws.proofs.Lists.{Filled, filled-none, filled-more, filled-all}
 use Rattle.analysis_steps.specs.Fold.{weighed}
-use Rattle.analysis_steps.proofs.Folds.{low, still}
+use Rattle.analysis_steps.specs.Runs.{low, still}
 use Rattle.analysis_steps.proofs.fold_zeros.Statement.{statement}
 use Rattle.analysis_steps.proofs.fold_zeros.Tie as tie
 
