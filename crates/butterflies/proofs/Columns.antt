@@ -94,18 +94,6 @@ module _ {p m : ℕ} {b : ℕ → (ℕ → Complex) → ℕ → Complex} where
   pub no-single : {re im : List Float} {i : ℕ} → i ≤ m → Singles p m b re im i re im i
   no-single l = record { re-kept = refl; im-kept = refl; low = l; done = λ f d. d }
 
-  module _ (loc : Local p m b) (o : ℕ → ℕ) (th : Through p o) where
-    pub quad-more : {re₀ im₀ re im re′ im′ : List Float} {q : ℕ} → Quads p m b re₀ im₀ re im q → q < m / 4 → length re′ ≡ length re → length im′ ≡ length im
-        → at re′ im′ ≡ turnedColumns 4 p m o b (4 * q) (at re im) → Quads p m b re₀ im₀ re′ im′ (q + 1)
-    quad-more {q = q} s l er ei stored =
-        let e : 4 * (q + 1) ≡ 4 * q + 4 = omega arith in
-        record { re-kept = er ∙ s .re-kept; im-kept = ei ∙ s .im-kept; low = omega arith; done = rw e (done-more p m b loc o th 4 _ _ _ (4 * q) (omega arith) (s .done) stored) }
-
-    pub single-more : {re₀ im₀ re im re′ im′ : List Float} {i₀ i : ℕ} → Singles p m b re₀ im₀ i₀ re im i → i < m → length re′ ≡ length re → length im′ ≡ length im
-        → at re′ im′ ≡ turnedColumns 1 p m o b i (at re im) → Singles p m b re₀ im₀ i₀ re′ im′ (i + 1)
-    single-more {i = i} s l er ei stored =
-        record { re-kept = er ∙ s .re-kept; im-kept = ei ∙ s .im-kept; low = omega arith; done = λ f d. done-more p m b loc o th 1 f _ _ i (omega arith) (s .done f d) stored }
-
   -- at the end of both all columns are turned
   pub all-turned : {re₀ im₀ re₁ im₁ re im : List Float} {q i : ℕ} → 0 < m → Quads p m b re₀ im₀ re₁ im₁ q → m / 4 ≤ q → Singles p m b re₁ im₁ (m / 4 * 4) re im i → m ≤ i
       → at re im ≡ stage p m b (at re₀ im₀)
@@ -113,3 +101,16 @@ module _ {p m : ℕ} {b : ℕ → (ℕ → Complex) → ℕ → Complex} where
       let whole : 4 * q ≡ m / 4 * 4 = omega arith in
       let past : i ≡ m = omega arith in
       fun-ext (done-all p m b _ _ h (rw past at (s2 .done _ (rw whole at (s .done)))))
+
+-- one quad more, and one single column more
+module _ (p m : ℕ) (b : ℕ → (ℕ → Complex) → ℕ → Complex) (loc : Local p m b) (o : ℕ → ℕ) (th : Through p o) where
+  pub quad-more : {re₀ im₀ re im re′ im′ : List Float} {q : ℕ} → Quads p m b re₀ im₀ re im q → q < m / 4 → length re′ ≡ length re → length im′ ≡ length im
+      → at re′ im′ ≡ turnedColumns 4 p m o b (4 * q) (at re im) → Quads p m b re₀ im₀ re′ im′ (q + 1)
+  quad-more {q = q} s l er ei stored =
+      let e : 4 * (q + 1) ≡ 4 * q + 4 = omega arith in
+      record { re-kept = er ∙ s .re-kept; im-kept = ei ∙ s .im-kept; low = omega arith; done = rw e (done-more p m b loc o th 4 _ _ _ (4 * q) (omega arith) (s .done) stored) }
+
+  pub single-more : {re₀ im₀ re im re′ im′ : List Float} {i₀ i : ℕ} → Singles p m b re₀ im₀ i₀ re im i → i < m → length re′ ≡ length re → length im′ ≡ length im
+      → at re′ im′ ≡ turnedColumns 1 p m o b i (at re im) → Singles p m b re₀ im₀ i₀ re′ im′ (i + 1)
+  single-more {i = i} s l er ei stored =
+      record { re-kept = er ∙ s .re-kept; im-kept = ei ∙ s .im-kept; low = omega arith; done = λ f d. done-more p m b loc o th 1 f _ _ i (omega arith) (s .done f d) stored }

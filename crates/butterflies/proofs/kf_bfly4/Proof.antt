@@ -39,7 +39,10 @@ loop-less : tie.Need-loop-less Inv-loop μ-loop Inv-loop2 μ-loop2
 loop-less c = omega (arith, c .before .before .before .before .before .before .before .loop-test .taken)
 
 loop-again : tie.Need-loop-again Inv-loop μ-loop Inv-loop2 μ-loop2
-loop-again c = quad-more (local4 _ _ _) (exchanged _) (exchange _) (c .before .before .before .before .before .before .before .before .loop .inv) (c .before .before .before .before .before .before .before .loop-test .taken) (c .before .before .before .before .quad4 .kept .0) (c .before .before .before .before .quad4 .kept .1 .0) (c .before .before .before .before .quad4 .ensures)
+loop-again c =
+    let a = c .before .before .before .before .before .before .before .before .before .before .before .before .before .args in
+    let u = at (a .tr .now) (a .ti .now) in
+    quad-more 4 (a .m) (beside4 (a .inverse) u (a .m)) (local4 u (a .m) (a .inverse)) (exchanged (a .inverse)) (exchange (a .inverse)) (c .before .before .before .before .before .before .before .before .loop .inv) (c .before .before .before .before .before .before .before .loop-test .taken) (c .before .before .before .before .quad4 .kept .0) (c .before .before .before .before .quad4 .kept .1 .0) (c .before .before .before .before .quad4 .ensures)
 
 mul-i : tie.Need-mul-i Inv-loop μ-loop Inv-loop2 μ-loop2
 mul-i c = omega (arith, c .before .before .before .before .before .before .good .0)
@@ -57,7 +60,10 @@ loop2-less : tie.Need-loop2-less Inv-loop μ-loop Inv-loop2 μ-loop2
 loop2-less c = omega (arith, c .before .before .before .before .before .before .before .loop2-test .taken)
 
 loop2-again : tie.Need-loop2-again Inv-loop μ-loop Inv-loop2 μ-loop2
-loop2-again c = single-more (local4 _ _ _) (exchanged _) (exchange _) (c .before .before .before .before .before .before .before .before .loop2 .inv) (c .before .before .before .before .before .before .before .loop2-test .taken) (c .before .before .before .before .turn4 .kept .0) (c .before .before .before .before .turn4 .kept .1 .0) (c .before .before .before .before .turn4 .ensures)
+loop2-again c =
+    let a = c .before .before .before .before .before .before .before .before .before .before .before .before .before .before .before .args in
+    let u = at (a .tr .now) (a .ti .now) in
+    single-more 4 (a .m) (beside4 (a .inverse) u (a .m)) (local4 u (a .m) (a .inverse)) (exchanged (a .inverse)) (exchange (a .inverse)) (c .before .before .before .before .before .before .before .before .loop2 .inv) (c .before .before .before .before .before .before .before .loop2-test .taken) (c .before .before .before .before .turn4 .kept .0) (c .before .before .before .before .turn4 .kept .1 .0) (c .before .before .before .before .turn4 .ensures)
 
 same-length : tie.Need-same-length Inv-loop μ-loop Inv-loop2 μ-loop2
 same-length c = c .before .loop2 .inv .re-kept ∙ c .before .before .before .loop .inv .re-kept
