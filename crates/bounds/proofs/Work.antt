@@ -69,7 +69,7 @@ module _ (N : ℕ) (t : ℕ → Complex) (inverse : Bool) (small : (i : ℕ) →
         let M = inner-positive (p ∷ m ∷ ps) p m ps d in
         let same : s * p * span ps ≡ N = mul-assoc s p (span ps) ∙ ap (λ (n : ℕ). s * (p * n)) (sym (d .inner)) ∙ e in
         let inner : (j : ℕ) → j < p * m → Both (k + growth ps) 1 (work t inverse x ps (s * p) (o + j / m * s) (j % m)) =
-        λ j J. work-bound ps (d .left) (s * p) (o + j / m * s) (sub-nums (p ∷ m ∷ ps) p m ps d s o (j / m) O (part-in j m p J) .3) same (omega arith) (j % m) (subst (λ (n : ℕ). j % m < n) (d .inner) (mod-lt j M)) in
+        λ j J. work-bound ps (d .rest-planned) (s * p) (o + j / m * s) (sub-nums (p ∷ m ∷ ps) p m ps d s o (j / m) O (part-in j m p J) .3) same (omega arith) (j % m) (subst (λ (n : ℕ). j % m < n) (d .inner) (mod-lt j M)) in
         subst (λ (n : ℕ). Both n 1 (work t inverse x (p ∷ m ∷ ps) s o i)) (add-assoc k (growth ps) (grow p))
         (rw (lt-ltb i (p * m) I)
         (column-bound (k + growth ps) (omega arith) p s m (i % m) (d .at-least) (d .at-most) (lt-of-le-of-lt zero-le O) e (mod-lt i M) _ (λ q Q. inner (i % m + m * q) (place-in i m p q M Q)) (i / m) (part-in i m p I)))

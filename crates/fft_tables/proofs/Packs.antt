@@ -51,7 +51,7 @@ module _ (t : ℕ → Complex) (n : ℕ) (still : parts one32 (t 0 .i) ≡ t 0) 
   packed [] s u h e o third = tt
   packed (p ∷ []) s u h e o third = tt
   packed (p ∷ m ∷ []) s u h e o third = (ap (λ (z : Complex). parts one32 (z .i)) (o 0 (omega arith)) ∙ still, o 1 (omega arith), o 2 (omega arith))
-  packed (p ∷ m ∷ r ∷ ps) s u h e o third = (stands, a-third, packed (r ∷ ps) (s * p) (after u p m) (sp .left) left-whole left (λ k e3. ap u left-last ∙ third k e3))
+  packed (p ∷ m ∷ r ∷ ps) s u h e o third = (stands, a-third, packed (r ∷ ps) (s * p) (after u p m) (sp .rest-planned) left-whole left (λ k e3. ap u left-last ∙ third k e3))
     where
       sp : Split (p ∷ m ∷ r ∷ ps) p m (r ∷ ps)
       sp = split p m (r ∷ ps) h
@@ -85,7 +85,7 @@ module _ (t : ℕ → Complex) (n : ℕ) (still : parts one32 (t 0 .i) ≡ t 0) 
       left-whole = ap (λ (x : ℕ). s * p * x) (sym (sp .inner)) ∙ mul-assoc s p m ∙ e
 
       left-last : m * (p - 1) + (span (r ∷ ps) - 2) ≡ p * m - 2
-      left-last = ap (λ (x : ℕ). m * (p - 1) + (x - 2)) (sym (sp .inner)) ∙ last-place p m (sp .at-least) (omega (arith, span-two r ps (sp .left), sp .inner))
+      left-last = ap (λ (x : ℕ). m * (p - 1) + (x - 2)) (sym (sp .inner)) ∙ last-place p m (sp .at-least) (omega (arith, span-two r ps (sp .rest-planned), sp .inner))
 
       left : (k : ℕ) → k < length inner-stages → after u p m k ≡ t (getD inner-stages k 0)
       left k l =

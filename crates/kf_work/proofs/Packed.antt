@@ -57,5 +57,5 @@ packed-work t u x inverse (p ∷ m ∷ r ∷ ps) s o h v pk k =
     let sp = split p m (r ∷ ps) h in
     let low = leb→le p 4 (and-l (leb p 4) (fives (r ∷ ps)) v) in
     ap (λ (f : ℕ → Complex). stage p m (packedColumn u inverse p m) f k)
-    (fun-ext (λ k. packed-work t (after u p m) x inverse (r ∷ ps) (s * p) (o + k / m * s) (sp .left) (and-r (leb p 4) (fives (r ∷ ps)) v) (pk .2) (k % m)))
+    (fun-ext (λ k. packed-work t (after u p m) x inverse (r ∷ ps) (s * p) (o + k / m * s) (sp .rest-planned) (and-r (leb p 4) (fives (r ∷ ps)) v) (pk .2) (k % m)))
     ∙ ap (λ (g : ℕ → Complex). g k) (stage-alike p m _ _ (inner-positive _ p m (r ∷ ps) sp) (λ j l c. column-alike t u inverse s m j c p (sp .at-least) low (λ q. pk .0 j q l) (pk .1)) _)

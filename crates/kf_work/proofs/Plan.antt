@@ -38,7 +38,7 @@ pub record Split (ps : List ℕ) (p m : ℕ) (rest : List ℕ) : Type 0 where
   pub at-least : 2 ≤ p
   pub at-most : p ≤ 5
   pub inner : m ≡ span rest
-  pub left : T (planned rest)
+  pub rest-planned : T (planned rest)
 
 pub split : (p m : ℕ) (ps : List ℕ) → T (planned (p ∷ m ∷ ps)) → Split (p ∷ m ∷ ps) p m ps
 unfolding planned
@@ -49,7 +49,7 @@ split p m ps h =
       at-least = leb→le 2 p (and-l (leb 2 p) (leb p 5 && (eqb m (span ps) && planned ps)) h);
       at-most = leb→le p 5 (and-l (leb p 5) (eqb m (span ps) && planned ps) h1);
       inner = eqb→eq m (span ps) (and-l (eqb m (span ps)) (planned ps) h2);
-      left = and-r (eqb m (span ps)) (planned ps) h2;
+      rest-planned = and-r (eqb m (span ps)) (planned ps) h2;
     }
 
 -- nothing is a plan of 1, and any other plan is of more, its inner length being less
@@ -59,7 +59,7 @@ span-positive [] h = omega arith
 span-positive (p ∷ []) h = absurd h
 span-positive (p ∷ m ∷ ps) h =
     let s = split p m ps h in
-    omega (arith, span-positive ps (s .left), mul-le-mul-right m (s .at-least), s .inner)
+    omega (arith, span-positive ps (s .rest-planned), mul-le-mul-right m (s .at-least), s .inner)
 
 -- what is left of a plan, as the part of a slice that it is lent as
 abbrev pub rest-of : List ℕ → List ℕ
@@ -78,7 +78,7 @@ module _ (ps : List ℕ) (p m : ℕ) (rest : List ℕ) (sp : Split ps p m rest) 
   whole = sym (ap span (sp .is))
 
   pub inner-positive : 0 < m
-  inner-positive = subst (λ (k : ℕ). 0 < k) (sym (sp .inner)) (span-positive rest (sp .left))
+  inner-positive = subst (λ (k : ℕ). 0 < k) (sym (sp .inner)) (span-positive rest (sp .rest-planned))
 
   -- a stage's twiddles, and those of the rest
   pub table-nums : m * (p - 1) + m ≡ span ps
@@ -112,7 +112,7 @@ below (p ∷ m ∷ r ∷ ps) h v =
     let s = split p m (r ∷ ps) h in
     record {
       innermost = λ e. absurd (no-fifth p m (s .at-least) (leb→le p 4 (and-l (leb p 4) (fives (r ∷ ps)) v)) e);
-      others = λ e. (omega arith, omega (arith, span-positive (r ∷ ps) (s .left), mul-le-mul-right m (s .at-least), s .inner));
+      others = λ e. (omega arith, omega (arith, span-positive (r ∷ ps) (s .rest-planned), mul-le-mul-right m (s .at-least), s .inner));
     }
   where
     no-fifth : (p m : ℕ) → 2 ≤ p → p ≤ 4 → p * m ≡ 5 → ⊥
@@ -131,6 +131,6 @@ taken (p ∷ []) h v l = absurd h
 taken (p ∷ m ∷ []) h v l = absurd (omega arith)
 taken (p ∷ m ∷ r ∷ ps) h v l =
     let all : rest-of (p ∷ m ∷ r ∷ ps) ≡ r ∷ ps = take-all (length (p ∷ m ∷ r ∷ ps) - 2) (r ∷ ps) (omega arith) in
-    let left = and-r (leb p 4) (fives (r ∷ ps)) v in
+    let few = and-r (leb p 4) (fives (r ∷ ps)) v in
     subst (λ (l : List ℕ). Taken (p ∷ m ∷ r ∷ ps) p l) (sym all)
-    (record { low = leb→le p 4 (and-l (leb p 4) (fives (r ∷ ps)) v); rest-fives = left; rest-below = below (r ∷ ps) (split p m (r ∷ ps) h .left) left })
+    (record { low = leb→le p 4 (and-l (leb p 4) (fives (r ∷ ps)) v); rest-fives = few; rest-below = below (r ∷ ps) (split p m (r ∷ ps) h .rest-planned) few })

@@ -114,7 +114,7 @@ module _ (es : List ℕ) (l : List Float) (rise : Rising (length l) es 480) (all
 
   -- not above zero: so no product is, and every energy that an f32 holds is a zero
   quiet-is : 0 < length l → ((k : ℕ) → T (fits binary32 (getD l k nan))) → lt none (getD (products es l) (best (products es l) (length l)) nan) ≡ false → first silent l ≡ length l
-  quiet-is some held h = sym (first-none silent l nan each)
+  quiet-is some f32s h = sym (first-none silent l nan each)
     where
       not-over : (k : ℕ) → k < length l → lt none (getD (products es l) k nan) ≡ false
       not-over k u = ⊎-elim (λ t. absurd (true≢false (sym (is-true _ (above none (getD (products es l) (best (products es l) (length l)) nan) (getD (products es l) k nan) tt (ranked-at (best (products es l) (length l)) (inside some)) (ranked-at k u) h (holds t))) ∙ most some k u))) (λ f. f) (outcomes (lt none (getD (products es l) k nan)))
@@ -122,7 +122,7 @@ module _ (es : List ℕ) (l : List Float) (rise : Rising (length l) es 480) (all
       each : (k : ℕ) → k < length l → silent (getD l k nan) ≡ true
       each k u =
           let w = rise k u in
-          zero-times (getD l k nan) (ofInt binary32 (pos (width es k))) (width es k) (as-f32 es (length l) rise k u) (omega (arith, w)) (held k) (pass-at k u)
+          zero-times (getD l k nan) (ofInt binary32 (pos (width es k))) (width es k) (as-f32 es (length l) rise k u) (omega (arith, w)) (f32s k) (pass-at k u)
           (rw (← product-at es l k u) (silent-is (getD (products es l) k nan) (ranked-at k u) (not-over k u)))
 
 -- ---- the answer at the configuration c, from es, which are its edges
@@ -145,4 +145,4 @@ module _ (c : ℕ) (l : List Float) (es : List ℕ) (v : T (valid c)) (n : lengt
 
     pub quiet-answer : ((k : ℕ) → T (fits binary32 (getD l k nan))) → lt none x ≡ false → Quiet ≡ loudest c l
     unfolding loudest
-    quiet-answer held h = rw (eq-eqb (first silent l) (length l) (quiet-is es l (asked .2) all (asked .0) held (rw value at h)))
+    quiet-answer f32s h = rw (eq-eqb (first silent l) (length l) (quiet-is es l (asked .2) all (asked .0) f32s (rw value at h)))

@@ -23,6 +23,7 @@ use Rattle.measurement_steps.specs.Energy.{energies}
 use Rattle.analysis_lines.specs.Lines.{timeBuffer, linesOf}
 use Rattle.analysis.specs.declared.Channel.{Channel}
 use Rattle.refusals.specs.Refusals.{clearing}
+use Rattle.refusals.proofs.Verdicts.{values-pass}
 use Rattle.analysis.specs.Analysis.{Lent, Given, keptOf, channelPast, clearedAs, cleared, number, framed, frames, lent}
 use Rattle.measurement.specs.Measurement as measurement
 use Rattle.measurement.specs.Measurement.{energiesOf, measures}
@@ -171,7 +172,7 @@ unfolding measures linesOf
 measure-takes a v s x i =
     let c = a .config in
     let l = length-mdct c v (timeBuffer c (channelPast a) x) in
-    let p = verdicts.says-0 c (next a x) refl (ap not (is-true (valid c) v)) l (length-replicate (nb c) zero32) (length-replicate (nb c) 0) refl (le-of-eq (all-pass _ (pass-each a v s x i))) in
+    let p = verdicts.says-rest c (next a x) refl (ap not (is-true (valid c) v)) l (length-replicate (nb c) zero32) (length-replicate (nb c) 0) (values-pass _ (le-of-eq (all-pass _ (pass-each a v s x i)))) in
     ap (λ (w : Verdict). measurement.measured (w .number) c (next a x)) (sym p)
 
 -- all along frames, from a channel on

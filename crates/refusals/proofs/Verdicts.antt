@@ -2,13 +2,13 @@
 use mathlib.Core.Path.{_≡_, refl}
 use mathlib.Core.Bool.{Bool, true, false, not, cond, _&&_}
 use mathlib.Core.List.{List}
-use Prim.Native.Nat.{ℕ, suc}
+use Prim.Native.Nat.{ℕ, suc, _≤_}
 use native.Mathlib.Omega.{arith}
 use lib.Dec.{T, eqb, ltb, eqb→eq}
 use lib.Ieee.{Float}
 use lib.Ieee.Fits.{and-l, and-r}
 use lib.ListN.{length}
-use borrow.Author.Tests.{eq-eqb, ne-eqb}
+use borrow.Author.Tests.{eq-eqb, ne-eqb, le-ltb}
 use Rattle.laws.specs.Lists.{first}
 use Rattle.laws.specs.Passes.{passes6}
 use Rattle.refusals.specs.declared.Verdict.{Verdict}
@@ -42,3 +42,8 @@ by-values x = go (ltb (first passes6 x) (length x)) (first passes6 x)
     go : (b : Bool) (i : ℕ) → cond b (record { number = badValue; index = i }) (told accepted) ≡ verdictOf (cond b badValue accepted) i
     go true i = refl
     go false i = refl
+
+-- values that all pass
+pub values-pass : (x : List Float) → length x ≤ first passes6 x → told accepted ≡ onValues x
+unfolding onValues
+values-pass x h = rw (le-ltb (first passes6 x) (length x) h)

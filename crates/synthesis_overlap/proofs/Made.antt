@@ -73,10 +73,10 @@ module _ (c : ℕ) (v : T (valid c)) {n h : ℕ} (e : Written c n h) where
       (omega arith, zero-le, ap length eb ∙ length-scaled g y ∙ l, ap length ew ∙ omega arith, rw ew (q .numbers), omega arith, omega arith)
 
   -- and what they leave
-  pub left : (past y : List Float) {g : Float} {b : List Float} {w : List ℕ} {m s : List Float} → g ≡ gain n → w ≡ window c → b ≡ scaled g y
+  pub written-is : (past y : List Float) {g : Float} {b : List Float} {w : List ℕ} {m s : List Float} → g ≡ gain n → w ≡ window c → b ≡ scaled g y
       → m ≡ remains (2 * h) 0 (windowed w (unfolded h b)) → s ≡ zipWith (add binary32) past (take (2 * h - 0) (drop 0 (windowed w (unfolded h b))))
       → (m ≡ remains (nf c) (z c) (under c y)) × (s ≡ output (nf c) (z c) past (under c y))
-  left past y {w = w} eg ew eb em es =
+  written-is past y {w = w} eg ew eb em es =
       let f = eg ∙ ap gain (sym (e .frame)) in (
         with-memory c v y f (e .points) (e .no-zeros) ew (em ∙ ap (λ (r : List Float). remains (2 * h) 0 (windowed w (unfolded h r))) eb),
         with-samples c v y f (e .points) (e .no-zeros) ew past (es ∙ whole-output (2 * h) past _ ∙ ap (λ (r : List Float). output (2 * h) 0 past (windowed w (unfolded h r))) eb),

@@ -144,7 +144,7 @@ kf-work-kf-work-requires t c κs =
     let more = lower t st .rest-below .others (λ e. c .before .before .before .before .before .if1 .left (inner-is ∙ e)) in (
       omega (arith, more .1, inner-is, st .pre .0),
       record {
-        radixes = first t st .left;
+        radixes = first t st .rest-planned;
         innermost-five = lower t st .rest-fives;
         stages = more .0;
         starts = n .3;

@@ -1,12 +1,9 @@
 -- `refusals::on_values` meets its contract: the first value that fails is before the end, or none is. Assumes nothing.
-use mathlib.Core.Path.{_≡_, sym, ap, subst, _∙_}
-use Prim.Native.Nat.{_≤_, _<_}
-use lib.ListN.{length}
+use mathlib.Core.Path.{_∙_}
 use borrow.Author.Needs.{needs}
-use borrow.Author.Tests.{lt-ltb, le-ltb}
-use Rattle.laws.specs.Lists.{first}
-use Rattle.laws.specs.Passes.{passes6}
-use Rattle.refusals.specs.Refusals.{badValue, onValues}
+use borrow.Author.Tests.{lt-ltb}
+use Rattle.refusals.specs.Refusals.{onValues}
+use Rattle.refusals.proofs.Verdicts.{values-pass}
 use Rattle.refusals.proofs.on_values.Statement.{statement}
 use Rattle.refusals.proofs.on_values.Tie as tie
 
@@ -17,10 +14,7 @@ returns c =
     rw (← e, lt-ltb _ _ (c .if1 .taken))
 
 returns-2 : tie.Need-returns-2
-unfolding onValues
-returns-2 c =
-    let e = c .before .before .first-failing-6 .ensures in
-    c .told .ensures ∙ rw (← e, le-ltb _ _ (c .before .if1 .left))
+returns-2 c = c .told .ensures ∙ values-pass _ (rw (c .before .before .first-failing-6 .ensures) at (c .before .if1 .left))
 
 -- the needs without a name, for any answer: a wrong one hides none of them
 safe : tie.Need-returns → tie.Need-returns-2 → {M : Type 1} → statement M
