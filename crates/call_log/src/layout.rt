@@ -20,41 +20,35 @@ pub enum Field {
 // The fields of a call, in its order.
 struct Row(Field, Field, Field, Field, Field, Field);
 
-const NONE: Field = Field::Nothing;
-
-const BYTE: Field = Field::Byte;
-
-const NUMBER: Field = Field::Number;
-
-const LENGTH: Field = Field::Length;
-
-const SAMPLES: Field = Field::Samples(1024);
-
-const FLOATS: Field = Field::Floats(1024);
-
-const ROWS: [Row; 15] = [
-    Row(Field::Unknown, NONE, NONE, NONE, NONE, NONE), // 0: no call
-    Row(BYTE, NONE, NONE, NONE, NONE, NONE), // 1: clear of the analysis channel
-    Row(SAMPLES, LENGTH, LENGTH, LENGTH, NONE, NONE), // 2: analysis frame
-    Row(BYTE, NONE, NONE, NONE, NONE, NONE), // 3: clear of the synthesis channel
-    Row(FLOATS, LENGTH, NONE, NONE, NONE, NONE), // 4: synthesis frame
-    Row(NUMBER, Field::Flag, FLOATS, FLOATS, LENGTH, LENGTH), // 5: FFT
-    Row(NUMBER, FLOATS, NONE, NONE, NONE, NONE), // 6: DCT
-    Row(BYTE, FLOATS, NONE, NONE, NONE, NONE), // 7: loudest band
-    Row(NONE, NONE, NONE, NONE, NONE, NONE), // 8: show both channels
-    Row(BYTE, Field::Samples(300), NONE, NONE, NONE, NONE), // 9: set the analysis channel
-    Row(BYTE, Field::Floats(300), NONE, NONE, NONE, NONE), // 10: set the synthesis channel
-    Row(SAMPLES, LENGTH, NONE, NONE, NONE, NONE), // 11: frame to lines alone
-    Row(BYTE, FLOATS, LENGTH, LENGTH, NONE, NONE), // 12: measurement alone
-    Row(Field::Unknown, NONE, NONE, NONE, NONE, NONE), // 13: no call
-    Row(BYTE, FLOATS, NONE, NONE, NONE, NONE), // 14: the flag, sooner
-];
-
+// The row of each kind. A field that several rows have stands in a local, which makes the check quicker than a constant would.
 fn rows() -> [Row; 15]
     ensures { λ r. ⌜ each r ≡ rows ⌝ }
     ensures { λ r. ⌜ 15 ≡ length r ⌝ }
 {
-    ROWS
+    let none = Field::Nothing;
+    let unknown = Field::Unknown;
+    let byte = Field::Byte;
+    let number = Field::Number;
+    let length = Field::Length;
+    let samples = Field::Samples(1024);
+    let floats = Field::Floats(1024);
+    [
+        Row(unknown, none, none, none, none, none), // 0: no call
+        Row(byte, none, none, none, none, none), // 1: clear of the analysis channel
+        Row(samples, length, length, length, none, none), // 2: analysis frame
+        Row(byte, none, none, none, none, none), // 3: clear of the synthesis channel
+        Row(floats, length, none, none, none, none), // 4: synthesis frame
+        Row(number, Field::Flag, floats, floats, length, length), // 5: FFT
+        Row(number, floats, none, none, none, none), // 6: DCT
+        Row(byte, floats, none, none, none, none), // 7: loudest band
+        Row(none, none, none, none, none, none), // 8: show both channels
+        Row(byte, Field::Samples(300), none, none, none, none), // 9: set the analysis channel
+        Row(byte, Field::Floats(300), none, none, none, none), // 10: set the synthesis channel
+        Row(samples, length, none, none, none, none), // 11: frame to lines alone
+        Row(byte, floats, length, length, none, none), // 12: measurement alone
+        Row(unknown, none, none, none, none, none), // 13: no call
+        Row(byte, floats, none, none, none, none), // 14: the flag, sooner
+    ]
 }
 
 impl Row {
