@@ -1,7 +1,7 @@
 // How near values computed in f32 are to sums in f64, which stand in bytes as tools/gate/double_sums writes them. New in this port.
 ghost use mathlib.Core.Path.{_≡_};
 ghost use Prim.Native.Nat.{_+_, _*_, _≤_, min};
-ghost use lib.ListN.{length, drop};
+ghost use lib.ListN.{length};
 ghost use lib.Ieee.{ofBits, binary64};
 ghost use Rattle.against_double.specs.Near.{long, sumOf, magnitude, larger, peak, doublings, near, least};
 

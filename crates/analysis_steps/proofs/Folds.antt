@@ -4,7 +4,7 @@ use mathlib.Core.List.{List, _++_, append-assoc}
 use Prim.Native.Nat.{ℕ, _+_, _-_, _*_, _/_, _≤_, _<_}
 use native.Mathlib.Omega.{arith}
 use lib.IntN.{ℤ, pos}
-use lib.ListN.{length, getD, length-append, getD-replicate, List·getD-append}
+use lib.ListN.{length, length-append, getD-replicate, List·getD-append}
 use lib.Seq.{getD-append-add}
 use lib.Ieee.{Float, binary32, sub, ofInt, ofBits}
 use Rattle.laws.specs.Lists.{tab}

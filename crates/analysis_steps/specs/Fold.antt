@@ -1,5 +1,5 @@
 -- The fold with the window, and the gain (`apply_mdct`, but for its DCT). Definitions only.
-use mathlib.Core.List.{List, map, _++_}
+use mathlib.Core.List.{List, _++_}
 use Prim.Native.Nat.{ℕ, _+_, _-_, _*_, _/_}
 use lib.IntN.{ℤ, pos}
 use lib.ListN.{getD}

@@ -1,7 +1,7 @@
 -- The frame file (document 01, "Frame file and listing"): its header, its records, and the whole file. A byte is a number below 256.
 -- Definitions only.
 use Prim.Native.Nat.{ℕ, zero, suc, _+_, _-_, _*_}
-use mathlib.Core.Bool.{Bool, true, false, cond, _&&_}
+use mathlib.Core.Bool.{Bool, cond, _&&_}
 use mathlib.Core.List.{List, [], _∷_}
 use lib.IntN.{ℤ, pos, negsuc}
 use lib.Dec.{ltb, eqb}

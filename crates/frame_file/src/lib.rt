@@ -22,7 +22,7 @@ pub enum Record {
     Astray,
 }
 
-// 16 bits, little-endian.
+// Entry. 16 bits, little-endian.
 pub fn join(low: u8, high: u8) -> u16
     ensures { λ r. ⌜ r ≡ low + 256 * high ⌝ }
 {

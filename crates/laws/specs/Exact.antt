@@ -1,5 +1,5 @@
 -- Floats in whole numbers, so that a rule of theirs is tested exactly: a float as a whole number of 2^-149, a product of two as one of 2^-298. Definitions only.
-use Prim.Native.Nat.{ℕ, _*_, _/_, _^_}
+use Prim.Native.Nat.{_*_, _/_, _^_}
 use mathlib.Core.Bool.{Bool, true, false, cond}
 use lib.IntN.{ℤ, pos, negℤ, natAbs, _-ℤ_}
 use lib.Dec.{leb}

@@ -10,7 +10,7 @@ use native.Mathlib.Numerals.{add-one}
 use native.Mathlib.Omega.{arith}
 use lib.Dec.{T, ltb, eqb}
 use lib.IntN.{ℤ}
-use lib.ListN.{length, take, drop, getD, length-drop}
+use lib.ListN.{length, take, drop, length-drop}
 use lib.Seq.{take-all, take-take, length-take-le, getD-take}
 use borrow.Author.Tests.{lt-ltb, le-ltb, ne-eqb, ltb-true, ltb-false}
 use Rattle.config.specs.Config.{valid, nf}
@@ -27,7 +27,7 @@ use Rattle.listing.specs.declared.Lister.{Lister}
 use Rattle.listing.specs.declared.Stepped.{Stepped}
 use Rattle.listing.specs.Text.{firstLine}
 use Rattle.listing.specs.Listing.{zeros, listened, lineOf, frameLines, lastLine, listed, listing}
-use Rattle.listing.specs.Steps.{text, said, start, told, opened, opening, counted, framed, found, step, written, wholeFrames}
+use Rattle.listing.specs.Steps.{start, told, opened, opening, counted, framed, found, step, written, wholeFrames}
 use Rattle.listing.specs.Whole.{Listed}
 use Rattle.laws.proofs.Bools.{outcomes}
 use Rattle.listing.proofs.Found.{usedBy, whole}

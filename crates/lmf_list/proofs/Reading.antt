@@ -7,7 +7,7 @@ use native.Mathlib.Omega.{arith}
 use lib.Dec.{ltb}
 use lib.ListN.{length, take, length-take, length-drop}
 use lib.Seq.{take-append-le}
-use borrow.Author.Tests.{le-ltb, ltb-true, ltb-false}
+use borrow.Author.Tests.{le-ltb, ltb-true}
 use borrow.Rule.Slice.PartMut.{midOf}
 use Rattle.laws.proofs.Parts.{mid-tail}
 use Rattle.frame_file.specs.File.{frameBytes}

@@ -3,7 +3,7 @@
 ghost use mathlib.Core.Path.{_≡_};
 ghost use Rattle.plain_text.specs.Text.{digit};
 
-// A flag as a digit.
+// Entry. A flag as a digit.
 pub fn digit(flag: bool) -> u8
     ensures { λ r. ⌜ r ≡ digit flag ⌝ }
 {

@@ -11,7 +11,6 @@ use lib.ListN.{length}
 use borrow.Author.Tests.{eq-eqb, ne-eqb, le-ltb}
 use Rattle.laws.specs.Lists.{first}
 use Rattle.laws.specs.Passes.{passes6}
-use Rattle.refusals.specs.declared.Verdict.{Verdict}
 use Rattle.refusals.specs.Refusals.{accepted, badValue, verdictOf, told, onValues}
 
 -- a test that was passed, and the number of those after it

@@ -11,7 +11,7 @@ use lib.ListN.{length, getD, take, drop, length-drop, length-reverse, List·getD
 use lib.Seq.{getD-append-add, getD-take, getD-drop, length-take-le, take-at, drop-at, take-add, drop-drop}
 use borrow.Rule.Slice.PartMut.{midOf, putMid}
 use borrow.Author.Tests.{ltb-true, ltb-false}
-use Rattle.laws.proofs.Lists.{is-tab, Filled, filled-is}
+use Rattle.laws.proofs.Lists.{Filled, filled-is}
 use Rattle.laws.proofs.Parts.{mid-tail, put-tail}
 
 -- before a place, or not

@@ -1,5 +1,5 @@
 -- `loamscarf_loudest_band` meets its contract: each case of the answer, field by field. Assumes nothing.
-use mathlib.Core.Path.{_≡_, sym, ap, _∙_}
+use mathlib.Core.Path.{sym, ap, _∙_}
 use Rattle.loudest.specs.declared.Loudest.{Loudest}
 use Rattle.loudest.specs.declared.Heard.{Heard}
 use Rattle.c_api.specs.declared.LoudestHeard.{LoudestHeard}

@@ -1,5 +1,4 @@
 -- `call_made::dct` meets its contract: the area that is lent holds the values, and then what the DCT leaves. Assumes nothing.
-use mathlib.Core.Path.{_∙_}
 use borrow.Author.Needs.{needs}
 use Rattle.call_made.proofs.Lends.{lends}
 use Rattle.call_made.proofs.Answers.{dct-is}

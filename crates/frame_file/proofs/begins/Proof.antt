@@ -1,7 +1,4 @@
 -- `frame_file::begins` meets its contract: byte after byte, as the definition says. Assumes nothing.
-use mathlib.Core.Path.{_≡_, refl, sym, ap, _∙_}
-use Prim.Native.Nat.{ℕ, _≤_}
-use lib.ListN.{getD}
 use borrow.Author.Tests.{eq-eqb, ne-eqb}
 use Rattle.frame_file.specs.File.{marked, byte}
 use borrow.Author.Needs.{needs}

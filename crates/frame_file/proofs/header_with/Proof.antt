@@ -1,12 +1,10 @@
 -- `frame_file::header_with` meets its contract: its tests are those of the definition, in its order. Assumes nothing.
-use mathlib.Core.Path.{_≡_, refl, sym, ap, _∙_}
-use mathlib.Core.Bool.{true, false}
-use Prim.Native.Nat.{ℕ, _≤_, _<_}
+use mathlib.Core.Path.{sym, ap, _∙_}
+use Prim.Native.Nat.{ℕ}
 use lib.ListN.{length}
 use borrow.Author.Tests.{lt-ltb, le-ltb, eq-eqb, ne-eqb, not-true, not-false}
 use Rattle.config.specs.Config.{valid}
-use Rattle.frame_file.specs.File.{byte, shortAt, marked, headerOf}
-use Rattle.frame_file.specs.declared.Header.{Header}
+use Rattle.frame_file.specs.File.{byte, shortAt, headerOf}
 use Rattle.frame_file.specs.declared.Header.the-variants.{Good}
 use borrow.Author.Needs.{needs}
 use Rattle.frame_file.proofs.header_with.Statement.{statement}

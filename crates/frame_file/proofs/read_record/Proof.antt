@@ -1,16 +1,13 @@
 -- `frame_file::read_record` meets its contract: its tests are those of the definition, in its order. Assumes nothing.
-use mathlib.Core.Path.{_≡_, refl, sym, ap, _∙_, subst}
-use mathlib.Core.Bool.{true}
-use Prim.Native.Nat.{ℕ, _*_, _≤_, _<_}
+use mathlib.Core.Path.{sym, ap, _∙_, subst}
+use Prim.Native.Nat.{ℕ, _*_}
 use native.Mathlib.Omega.{arith}
 use lib.Dec.{T}
 use lib.ListN.{length}
 use borrow.Author.Tests.{lt-ltb, le-ltb, eq-eqb, ne-eqb, not-true, not-false}
 use Rattle.config.specs.Config.{valid, nf}
-use Rattle.config.specs.Sound.{Sound}
 use Rattle.config.proofs.Sound.{sound}
 use Rattle.frame_file.specs.File.{frameBytes, recordOf}
-use Rattle.frame_file.specs.declared.Record.{Record}
 use Rattle.frame_file.specs.declared.Record.the-variants.{Frame}
 use borrow.Author.Needs.{needs}
 use Rattle.frame_file.proofs.read_record.Statement.{statement}

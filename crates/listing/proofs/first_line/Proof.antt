@@ -1,8 +1,8 @@
 use Rattle.frame_file.specs.File.{lmf}
 -- `listing::first_line` meets its contract: a line that grows from a blank one. Assumes nothing.
-use mathlib.Core.Path.{_≡_, ap, _∙_}
+use mathlib.Core.Path.{ap, _∙_}
 use mathlib.Core.List.{_++_, append-assoc}
-use Prim.Native.Nat.{ℕ, _+_, _≤_}
+use Prim.Native.Nat.{_+_}
 use native.Mathlib.Omega.{arith}
 use Rattle.listing.specs.declared.line.Text.{Text}
 use Rattle.plain_text.specs.Text.{space, newline, decimal}

@@ -5,7 +5,7 @@ use Rattle.loudest.specs.declared.Loudest.the-variants.{Quiet, Loud}
 use mathlib.Core.Path.{_≡_, ap, _∙_, sym}
 use mathlib.Core.List.{_∷_, [], _++_, append-assoc}
 use mathlib.Core.Bool.{Bool}
-use Prim.Native.Nat.{ℕ, _+_, _≤_}
+use Prim.Native.Nat.{ℕ, _+_}
 use native.Mathlib.Omega.{arith}
 use Rattle.listing.specs.declared.line.Text.{Text}
 use Rattle.plain_text.specs.Text.{newline, digit, decimal}

@@ -1,6 +1,5 @@
 -- `listing::start` meets its contract: the channel is the fresh one. Assumes nothing.
 use mathlib.Core.Path.{ap}
-use Rattle.analysis.specs.declared.Channel.{Channel}
 use Rattle.analysis.specs.declared.Cleared.{Cleared}
 use Rattle.listing.specs.declared.Lister.{Lister}
 use borrow.Author.Needs.{needs}

@@ -1,8 +1,8 @@
 use Rattle.plain_text.specs.Text.{newline, decimal}
 use mathlib.Core.List.{_++_}
 -- `listing::worded` meets its contract: a line that grows from a blank one. Assumes nothing.
-use mathlib.Core.Path.{_≡_, ap, _∙_}
-use Prim.Native.Nat.{ℕ, _+_, _≤_}
+use mathlib.Core.Path.{ap}
+use Prim.Native.Nat.{_+_}
 use native.Mathlib.Omega.{arith}
 use Rattle.listing.specs.declared.line.Text.{Text}
 use Rattle.listing.proofs.Lines.{begun, grown, says-len}

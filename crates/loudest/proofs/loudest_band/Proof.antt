@@ -3,7 +3,7 @@ use mathlib.Core.Path.{ap, _∙_}
 use borrow.Author.Needs.{needs}
 use Rattle.laws.proofs.Bools.{holds}
 use Rattle.refusals.proofs.Energies.{gives-refusal, gives-answer, passed}
-use Rattle.loudest.specs.Loudest.{loudest, heard, told, refusal}
+use Rattle.loudest.specs.Loudest.{heard, told, refusal}
 use Rattle.loudest.proofs.loudest_band.Statement.{statement}
 use Rattle.loudest.proofs.loudest_band.Tie as tie
 

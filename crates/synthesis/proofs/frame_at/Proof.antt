@@ -1,5 +1,4 @@
 -- `synthesis::frame_at` meets its contract: what is not refused, and a refusal by its number and index. Assumes nothing.
-use mathlib.Core.Path.{sym, _∙_}
 use borrow.Author.Needs.{needs}
 use Rattle.synthesis.specs.Synthesis.{channelOf, lent}
 use Rattle.synthesis.proofs.Frames.{refused, taken}

@@ -1,5 +1,5 @@
 -- `synthesis::refusal` meets its contract: the tests are the definition's, in its order. Assumes nothing.
-use mathlib.Core.Path.{_≡_, subst⁻¹, sym}
+use mathlib.Core.Path.{_≡_, subst⁻¹}
 use native.Mathlib.Omega.{arith}
 use borrow.Author.Needs.{needs}
 use Rattle.refusals.specs.declared.Verdict.{Verdict}

@@ -1,5 +1,5 @@
 -- `near::double` meets its contract: a pattern above that of infinity is a NaN, and the others are read. Assumes nothing.
-use mathlib.Core.Path.{_≡_, sym, _∙_, subst}
+use mathlib.Core.Path.{sym, _∙_, subst}
 use mathlib.Core.Bool.{Bool, not}
 use lib.Dec.{T}
 use lib.Ieee.{binary64, ofBits, div}

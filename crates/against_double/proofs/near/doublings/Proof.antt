@@ -1,5 +1,5 @@
 -- `near::doublings` meets its contract. The invariant: n doublings are done, and what is left is counted from d. Assumes nothing.
-use mathlib.Core.Path.{_≡_, refl, sym, _∙_}
+use mathlib.Core.Path.{_≡_, sym, _∙_}
 use Prim.Native.Nat.{_≤_, _+_, _-_}
 use native.Mathlib.Omega.{arith}
 use Rattle.against_double.specs.Near.{doublings}

@@ -1,5 +1,5 @@
 -- `near::long` meets its contract. Assumes nothing.
-use mathlib.Core.Path.{_≡_, ap, _∙_}
+use mathlib.Core.Path.{ap, _∙_}
 use native.Mathlib.Omega.{arith}
 use Rattle.call_log.specs.Log.{word}
 use borrow.Author.Needs.{needs}

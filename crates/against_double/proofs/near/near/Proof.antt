@@ -1,5 +1,5 @@
 -- `near::near` meets its contract. Assumes nothing.
-use mathlib.Core.Path.{_≡_, ap, _∙_}
+use mathlib.Core.Path.{ap, _∙_}
 use lib.Ieee.{Float, binary64, sub}
 use Rattle.against_double.specs.Near.{doublings, magnitude}
 use borrow.Author.Needs.{needs}

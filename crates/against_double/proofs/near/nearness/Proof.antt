@@ -1,5 +1,5 @@
 -- `near::nearness` meets its contract. Assumes nothing.
-use mathlib.Core.Path.{_≡_, ap, _∙_}
+use mathlib.Core.Path.{ap, _∙_}
 use lib.ListN.{length}
 use lib.Ieee.{Float}
 use Rattle.against_double.specs.Near.{least}

@@ -1,9 +1,7 @@
 -- `call_made::Bench::made` meets its contract: each arm makes the call of its kind. Assumes nothing.
-use mathlib.Core.Path.{sym, ap, _∙_}
-use Prim.Native.Nat.{ℕ}
 use borrow.Author.Tests.{ne-eqb}
 use borrow.Author.Needs.{needs}
-use Rattle.call_made.specs.Made.{withAnalysis, made}
+use Rattle.call_made.specs.Made.{made}
 use Rattle.call_made.proofs.Bench.made.Statement.{statement}
 use Rattle.call_made.proofs.Bench.made.Tie as tie
 

@@ -1,9 +1,8 @@
 -- `call_made::Bench::on_none` meets its contract: each arm makes the call of its kind. Assumes nothing.
-use mathlib.Core.Path.{refl, sym, ap, _∙_}
-use Prim.Native.Nat.{ℕ}
+use mathlib.Core.Path.{refl}
 use borrow.Author.Tests.{ne-eqb}
 use borrow.Author.Needs.{needs}
-use Rattle.call_made.specs.Made.{withAnswer, onNone}
+use Rattle.call_made.specs.Made.{onNone}
 use Rattle.call_made.proofs.Bench.on_none.Statement.{statement}
 use Rattle.call_made.proofs.Bench.on_none.Tie as tie
 

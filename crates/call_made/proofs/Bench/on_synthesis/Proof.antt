@@ -1,9 +1,7 @@
 -- `call_made::Bench::on_synthesis` meets its contract: each arm makes the call of its kind. Assumes nothing.
-use mathlib.Core.Path.{sym, ap, _∙_}
-use Prim.Native.Nat.{ℕ}
 use borrow.Author.Tests.{ne-eqb}
 use borrow.Author.Needs.{needs}
-use Rattle.call_made.specs.Made.{withSynthesis, onSynthesis}
+use Rattle.call_made.specs.Made.{onSynthesis}
 use Rattle.call_made.proofs.Bench.on_synthesis.Statement.{statement}
 use Rattle.call_made.proofs.Bench.on_synthesis.Tie as tie
 

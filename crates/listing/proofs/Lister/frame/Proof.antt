@@ -1,12 +1,11 @@
 -- `listing::Lister::frame` meets its contract: line and next state from what the calls ensure. Assumes nothing.
-use mathlib.Core.Path.{_≡_, refl, sym, ap, ap₂, _∙_}
+use mathlib.Core.Path.{ap, ap₂, _∙_}
 use Prim.Native.Nat.{ℕ}
 use lib.ListN.{length}
 use Rattle.listing.specs.declared.line.Text.{Text}
 use Rattle.listing.specs.declared.frame.Listened.{Listened}
-use Rattle.listing.specs.declared.Lister.{Lister}
 use Rattle.listing.specs.declared.Stepped.{Stepped}
-use Rattle.listing.specs.Steps.{framed, counted}
+use Rattle.listing.specs.Steps.{framed}
 use borrow.Author.Needs.{needs}
 use Rattle.listing.proofs.Lister.frame.Statement.{statement}
 use Rattle.listing.proofs.Lister.frame.Tie as tie

@@ -1,12 +1,10 @@
 -- `listing::Lister::step` meets its contract, record by record. Assumes nothing.
-use mathlib.Core.Path.{_≡_, refl, sym, ap, _∙_}
-use mathlib.Core.List.{List}
-use Prim.Native.Nat.{ℕ, _≤_}
+use mathlib.Core.Path.{sym, ap, _∙_}
+use Prim.Native.Nat.{ℕ}
 use native.Mathlib.Omega.{arith}
-use lib.ListN.{length, take}
+use lib.ListN.{take}
 use lib.Seq.{length-take-le}
 use Rattle.config.specs.Config.{nf}
-use Rattle.frame_file.specs.declared.Record.{Record}
 use Rattle.frame_file.specs.File.{samples, recordNumber}
 use Rattle.listing.specs.declared.line.Text.{Text}
 use Rattle.listing.specs.declared.Lister.{Lister}

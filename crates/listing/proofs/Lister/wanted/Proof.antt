@@ -1,6 +1,4 @@
 -- `listing::Lister::wanted` meets its contract. Assumes nothing.
-use mathlib.Core.Path.{ap}
-use Prim.Native.Nat.{ℕ, _*_}
 use native.Mathlib.Omega.{arith}
 use Rattle.listing.proofs.Found.{nf-most}
 use borrow.Author.Needs.{needs}

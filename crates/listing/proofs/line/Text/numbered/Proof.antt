@@ -1,7 +1,5 @@
 -- `listing::line::Text::numbered` meets its contract: a number and then bytes. Assumes nothing.
 use mathlib.Core.Path.{_≡_, ap, _∙_}
-use mathlib.Core.List.{List}
-use Prim.Native.Nat.{ℕ, _≤_}
 use native.Mathlib.Omega.{arith}
 use lib.ListN.{length}
 use Rattle.listing.specs.declared.line.Text.{Text}

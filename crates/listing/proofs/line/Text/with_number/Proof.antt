@@ -1,7 +1,5 @@
 -- `listing::line::Text::with_number` meets its contract: the digits that `io::decimal` gives are `decimal`'s. Assumes nothing.
-use mathlib.Core.Path.{_≡_, ap, _∙_}
-use mathlib.Core.List.{List}
-use Prim.Native.Nat.{ℕ, _≤_}
+use mathlib.Core.Path.{ap, _∙_}
 use native.Mathlib.Omega.{arith}
 use lib.ListN.{length}
 use Rattle.listing.specs.Steps.{with}
