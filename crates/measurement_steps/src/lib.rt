@@ -192,8 +192,8 @@ fn apart(edges: &[usize], b: usize) -> bool
 // The first bands, by fours as long as these are of one line each; and by how many fours.
 fn singles(lines: &[f32], edges: &[usize], out: &mut [f32], places: &mut [usize]) -> usize
     requires { ⌜ (length (now lines) ≤ 480) × (length (now out) < length (now edges)) × (length (now places) ≡ length (now out)) × Rising (length (now out)) (now edges) (length (now lines)) ⌝ }
-    ensures { λ r. ⌜ Fours (length (now (out .entry))) (now (edges .entry)) r
-        × (now (out .exit) ≡ begun (4 * r) (λ b. energy (bandOf (now (edges .entry)) (now (lines .entry)) b)) (now (out .entry)))
+    ensures fours { λ r. ⌜ Fours (length (now (out .entry))) (now (edges .entry)) r ⌝ }
+    ensures bands { λ r. ⌜ (now (out .exit) ≡ begun (4 * r) (λ b. energy (bandOf (now (edges .entry)) (now (lines .entry)) b)) (now (out .entry)))
         × (now (places .exit) ≡ begun (4 * r) (peakOf (now (edges .entry)) (now (lines .entry))) (now (places .entry))) ⌝ }
 {
     let mut q = 0;

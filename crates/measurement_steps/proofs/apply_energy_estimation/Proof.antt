@@ -32,7 +32,7 @@ loop-holds : tie.Need-loop-holds Inv-loop μ-loop
 loop-holds c =
     let a = c .before .before .before .before .before .before .before .before .before .before .before .args in
     let first = c .before .before .before .before .singles .ensures in
-    (omega arith, filled-from _ _ (a .out .now) _ (first .1), filled-from _ _ (a .places .now) _ (first .2))
+    (omega arith, filled-from _ _ (a .out .now) _ (first .1 .0), filled-from _ _ (a .places .now) _ (first .1 .1))
 
 band-requires : tie.Need-band-requires Inv-loop μ-loop
 band-requires c κs =

@@ -40,7 +40,7 @@ apart-requires c κs =
 returns : tie.Need-returns Inv-loop μ-loop
 returns c =
     let inv = c .before .before .before .loop .inv in
-    ((omega arith, inv .1, λ l. c .before .apart .ensures .1 (not-true _ (c .if1 .taken))), inv .2 .holds, inv .3 .holds)
+    ((omega arith, inv .1, λ l. c .before .apart .ensures .1 (not-true _ (c .if1 .taken))), (inv .2 .holds, inv .3 .holds))
 
 mul-single : tie.Need-mul-single Inv-loop μ-loop
 mul-single c = search needs
@@ -83,7 +83,7 @@ loop-again c =
 returns-2 : tie.Need-returns-2 Inv-loop μ-loop
 returns-2 c =
     let inv = c .before .loop .inv in
-    ((omega arith, inv .1, λ l. absurd (omega arith)), inv .2 .holds, inv .3 .holds)
+    ((omega arith, inv .1, λ l. absurd (omega arith)), (inv .2 .holds, inv .3 .holds))
 
 -- the needs without a name, for any answer: a wrong one hides none of them
 safe : tie.Need-loop-again Inv-loop μ-loop → tie.Need-returns Inv-loop μ-loop → tie.Need-returns-2 Inv-loop μ-loop → {M : Type 1} → statement M
