@@ -1,4 +1,4 @@
--- The fold with the window, and the gain (`apply_mdct`, but for its DCT). Definitions only.
+-- The fold with the window (`apply_mdct`, but for its DCT and its gain). Definitions only.
 use mathlib.Core.List.{List, _++_}
 use Prim.Native.Nat.{ℕ, _+_, _-_, _*_, _/_}
 use lib.IntN.{ℤ, pos}

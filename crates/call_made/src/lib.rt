@@ -428,7 +428,7 @@ fn set_analysis(b: &[u8]) -> Analysed
     let k = call_log::count_samples(input, &samples);
     call_log::samples(input, &mut samples[..k]);
     let config = call_log::byte_at(b, 1);
-    analysed_as(analysis::Channel { config, samples }, 0)
+    analysed_as(analysis::Channel { config, samples }, ACCEPTED)
 }
 
 // 10: set of the synthesis channel.
@@ -440,7 +440,7 @@ fn set_synthesis(b: &[u8]) -> Played
     let k = call_log::count_floats(input, &memory);
     call_log::floats(input, &mut memory[..k]);
     let config = call_log::byte_at(b, 1);
-    played_as(synthesis::Channel { config, memory }, 0)
+    played_as(synthesis::Channel { config, memory }, ACCEPTED)
 }
 
 // The channels, with an answer.

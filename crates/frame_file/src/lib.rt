@@ -29,7 +29,7 @@ pub fn join(low: u8, high: u8) -> u16
     low as u16 + 256 * (high as u16)
 }
 
-// Inner. Whether a file of three bytes or more begins with the mark.
+// Inner. Whether a file or a log, of three bytes or more, begins with the mark.
 pub fn begins(file: &[u8], mark: &[u8; 3]) -> bool
     requires { ⌜ 3 ≤ length (now file) ⌝ }
     ensures { λ r. ⌜ r ≡ marked (now (mark .entry)) (now (file .entry)) ⌝ }

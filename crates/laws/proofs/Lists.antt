@@ -1,4 +1,4 @@
--- Lists by their places. The invariant of a loop that writes place after place is `Filled`, of a search `first-at` and `first-none` close it.
+-- Lists by their places. The invariant of a loop that writes place after place is `Filled`, of a search for the first that fails `Searched`.
 -- Assumes nothing.
 use mathlib.Core.Path.{_≡_, refl, sym, ap, _∙_}
 use mathlib.Core.Logic.{⊎-elim}

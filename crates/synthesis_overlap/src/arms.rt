@@ -222,7 +222,7 @@ fn overlap_n20_2p5ms(memory: &mut [f32], samples: &mut [f32])
     ensures memory { λ _. ⌜ now (memory .exit) ≡ remains (nf 15) (z 15) (windowed (window 15) (unfolded (half 15) (scaled (gain (nf 15)) (now (samples .entry))))) ⌝ }
     ensures samples { λ _. ⌜ now (samples .exit) ≡ output (nf 15) (z 15) (now (memory .entry)) (windowed (window 15) (unfolded (half 15) (scaled (gain (nf 15)) (now (samples .entry))))) ⌝ }
 {
-    // setting up a loop as short as these costs more than running it: called from here, the compiler knows how often each turns
+    // setting up a loop as short as these costs more than running it: called from here, the compiler knows how often each goes round
     let w = w_n20_2p5ms();
     let mut v = zeros_20();
     synthesis_steps::scaled(samples, gains::gain(20), &mut v);
