@@ -1,9 +1,12 @@
 // Compares lines, energies and samples with the specification's sums in double precision, which tools/gate/double_sums stored in data/sums. Prints for each
 // configuration the worst error of each kind as a power of two of its frame's peak, and `failed` before that where one is above 2^-20.
+
+#![tactic(auto)]
+
 ghost use Rattle.std.specs.Prelude.{◌≡◌, ◌≤◌, min, T, length, nat_le};
 ghost use Rattle.config.specs.Config.{valid};
 
-use libc::STDOUT_FILENO;
+use std::fs::File;
 
 mod near; // near.rt: how near values are to sums
 
@@ -13,28 +16,28 @@ const FRAMES: usize = 5;
 const LIMIT: usize = 20;
 
 // How near lines, energies and samples were in the frames so far.
-#[derive(Drop)]
+#[derive(Clone, Copy)]
 struct Worst {
     lines: usize,
     energies: usize,
     samples: usize,
 }
 
-#[derive(Drop)]
+#[derive(Clone, Copy)]
 struct Analysed {
     channel: analysis::Channel,
     lines: usize,
     energies: usize,
 }
 
-#[derive(Drop)]
+#[derive(Clone, Copy)]
 struct Played {
     channel: synthesis::Channel,
     samples: usize,
 }
 
 // Both channels after a frame, and how near it was.
-#[derive(Drop)]
+#[derive(Clone, Copy)]
 struct Stepped {
     analysis: analysis::Channel,
     synthesis: synthesis::Channel,
@@ -80,60 +83,61 @@ fn places_room() -> [usize; 480]
 }
 
 // Fills buf from the file. Whether all of it was there.
-fn fill(fd: i32, buf: &mut [u8]) -> bool {
-    io::read_full(fd, buf) == buf.len()
+fn fill(file: &File, buf: &mut [u8]) -> bool {
+    let mut input = file;
+    streams::read_full(&mut input, buf) == buf.len()
 }
 
 // How near values are to the sums that buf is filled with; not at all where those are cut.
-fn compare_by(fd: i32, values: &[f32], buf: &mut [u8]) -> usize
+fn compare_by(file: &File, values: &[f32], buf: &mut [u8]) -> usize
     requires { length values.now ≤ 480 }
 {
-    if !fill(fd, buf) {
+    if !fill(file, buf) {
         return 0;
     }
     near::nearness(values, buf)
 }
 
 // How near values are to the next sums of the file.
-fn compare(fd: i32, values: &[f32]) -> usize
+fn compare(file: &File, values: &[f32]) -> usize
     requires { length values.now ≤ 480 }
 {
     let mut buf = io::buffer();
     let n = 8 * values.len();
-    compare_by(fd, values, &mut buf[..n])
+    compare_by(file, values, &mut buf[..n])
 }
 
-fn samples_by(fd: i32, out: &mut [i16], buf: &mut [u8]) {
-    fill(fd, buf);
+fn samples_by(file: &File, out: &mut [i16], buf: &mut [u8]) {
+    fill(file, buf);
     call_log::samples(buf, out);
 }
 
 // The next samples of the file, as many as out has places.
-fn read_samples(fd: i32, out: &mut [i16])
+fn read_samples(file: &File, out: &mut [i16])
     requires { length out.old ≤ 480 }
 {
     let mut buf = io::buffer();
     let n = 2 + 2 * out.len();
-    samples_by(fd, out, &mut buf[..n]);
+    samples_by(file, out, &mut buf[..n]);
 }
 
-fn floats_by(fd: i32, out: &mut [f32], buf: &mut [u8]) {
-    fill(fd, buf);
+fn floats_by(file: &File, out: &mut [f32], buf: &mut [u8]) {
+    fill(file, buf);
     call_log::floats(buf, out);
 }
 
 // The next lines of the file, as many as out has places.
-fn read_lines(fd: i32, out: &mut [f32])
+fn read_lines(file: &File, out: &mut [f32])
     requires { length out.old ≤ 480 }
 {
     let mut buf = io::buffer();
     let n = 2 + 4 * out.len();
-    floats_by(fd, out, &mut buf[..n]);
+    floats_by(file, out, &mut buf[..n]);
 }
 
 // The next frame of the file, analysed and measured in the slices lent.
 fn analyse_in(
-    fd: i32,
+    file: &File,
     channel: analysis::Channel,
     frame: &mut [i16],
     lines: &mut [f32],
@@ -142,13 +146,13 @@ fn analyse_in(
 ) -> Analysed
     requires { (length frame.old ≤ 480) × (length lines.old ≤ 480) × (length energies.old ≤ 480) }
 {
-    read_samples(fd, frame);
+    read_samples(file, frame);
     let config = channel.config;
     let framed = channel.frame(frame, lines);
     let next = framed.channel;
     measurement::measure(config, lines, energies, peaks);
-    let by_lines = compare(fd, lines);
-    let by_energies = compare(fd, energies);
+    let by_lines = compare(file, lines);
+    let by_energies = compare(file, energies);
     Analysed {
         channel: next,
         lines: by_lines,
@@ -157,7 +161,7 @@ fn analyse_in(
 }
 
 // The next frame of the file, analysed and measured.
-fn analyse(fd: i32, channel: analysis::Channel, nf: usize, nb: usize) -> Analysed
+fn analyse(file: &File, channel: analysis::Channel, nf: usize, nb: usize) -> Analysed
     requires { (nf ≤ 480) × (nb ≤ 480) }
 {
     let mut frame = samples_room();
@@ -165,7 +169,7 @@ fn analyse(fd: i32, channel: analysis::Channel, nf: usize, nb: usize) -> Analyse
     let mut energies = floats_room();
     let mut peaks = places_room();
     analyse_in(
-        fd,
+        file,
         channel,
         &mut frame[..nf],
         &mut lines[..nf],
@@ -175,13 +179,18 @@ fn analyse(fd: i32, channel: analysis::Channel, nf: usize, nb: usize) -> Analyse
 }
 
 // The next lines of the file, played in the slices lent.
-fn play_in(fd: i32, channel: synthesis::Channel, lines: &mut [f32], samples: &mut [f32]) -> Played
+fn play_in(
+    file: &File,
+    channel: synthesis::Channel,
+    lines: &mut [f32],
+    samples: &mut [f32],
+) -> Played
     requires { (length lines.old ≤ 480) × (length samples.old ≤ 480) }
 {
-    read_lines(fd, lines);
+    read_lines(file, lines);
     let framed = channel.frame(lines, samples);
     let next = framed.channel;
-    let by_samples = compare(fd, samples);
+    let by_samples = compare(file, samples);
     Played {
         channel: next,
         samples: by_samples,
@@ -189,20 +198,20 @@ fn play_in(fd: i32, channel: synthesis::Channel, lines: &mut [f32], samples: &mu
 }
 
 // The next lines of the file, played.
-fn play(fd: i32, channel: synthesis::Channel, ne: usize, nf: usize) -> Played
+fn play(file: &File, channel: synthesis::Channel, ne: usize, nf: usize) -> Played
     requires { (ne ≤ 480) × (nf ≤ 480) }
 {
     let mut lines = floats_room();
     let mut samples = floats_room();
-    play_in(fd, channel, &mut lines[..ne], &mut samples[..nf])
+    play_in(file, channel, &mut lines[..ne], &mut samples[..nf])
 }
 
 // A frame of both channels.
-fn step(fd: i32, c: u8, a: analysis::Channel, s: synthesis::Channel, w: Worst) -> Stepped
+fn step(file: &File, c: u8, a: analysis::Channel, s: synthesis::Channel, w: Worst) -> Stepped
     requires { T (valid c) }
 {
-    let x = analyse(fd, a, config::nf(c), config::nb(c));
-    let y = play(fd, s, config::ne(c), config::nf(c));
+    let x = analyse(file, a, config::nf(c), config::nb(c));
+    let y = play(file, s, config::ne(c), config::nf(c));
     let analysis = x.channel;
     let synthesis = y.channel;
     Stepped {
@@ -213,7 +222,7 @@ fn step(fd: i32, c: u8, a: analysis::Channel, s: synthesis::Channel, w: Worst) -
 }
 
 // All frames of a configuration.
-fn configuration(fd: i32, c: u8) -> Worst
+fn configuration(file: &File, c: u8) -> Worst
     requires { T (valid c) }
 {
     let fresh = analysis::clear(c);
@@ -226,7 +235,7 @@ fn configuration(fd: i32, c: u8) -> Worst
         samples: 60,
     };
     for k in 0..FRAMES {
-        let next = step(fd, c, a, s, w);
+        let next = step(file, c, a, s, w);
         a = next.analysis;
         s = next.synthesis;
         w = next.worst;
@@ -234,37 +243,48 @@ fn configuration(fd: i32, c: u8) -> Worst
     w
 }
 
-fn print_power(name: &[u8], n: usize) {
-    io::write_all(STDOUT_FILENO, name);
-    io::write_all(STDOUT_FILENO, b" 2^-");
-    io::print_decimal(STDOUT_FILENO, n as u64);
+fn write(rt: &HostRuntime, bytes: &[u8]) {
+    let mut output = rt.stdout();
+    streams::write_all(&mut output, bytes);
 }
 
-fn report(c: u8, w: Worst) {
+fn write_decimal(rt: &HostRuntime, n: u64) {
+    let mut digits = [0u8; 20];
+    let k = io::decimal(n, &mut digits);
+    write(rt, &digits[..k]);
+}
+
+fn print_power(rt: &HostRuntime, name: &[u8], n: usize) {
+    write(rt, name);
+    write(rt, b" 2^-");
+    write_decimal(rt, n as u64);
+}
+
+fn report(rt: &HostRuntime, c: u8, w: Worst) {
     if !w.passes() {
-        io::write_all(STDOUT_FILENO, b"failed ");
+        write(rt, b"failed ");
     }
-    io::print_decimal(STDOUT_FILENO, c as u64);
-    print_power(b" lines", w.lines);
-    print_power(b" energies", w.energies);
-    print_power(b" samples", w.samples);
-    io::write_all(STDOUT_FILENO, b"\n");
+    write_decimal(rt, c as u64);
+    print_power(rt, b" lines", w.lines);
+    print_power(rt, b" energies", w.energies);
+    print_power(rt, b" samples", w.samples);
+    write(rt, b"\n");
 }
 
-fn configurations(fd: i32) {
+fn configurations(rt: &HostRuntime, file: &File) {
     for c in 0..255u8 {
         if config::valid(c) {
-            report(c, configuration(fd, c));
+            report(rt, c, configuration(file, c));
         }
     }
 }
 
-fn main() {
-    let fd = os::open_read(b"sums");
-    if fd < 0 {
-        os::fail(b"sums");
-        return;
+fn main(rt: HostRuntime) {
+    match File::open(&rt, "sums") {
+        Ok(file) => configurations(&rt, &file),
+        Err(error) => {
+            let mut errors = rt.stderr();
+            streams::fail(&mut errors, b"sums", &error);
+        }
     }
-    configurations(fd);
-    libc::close(fd);
 }

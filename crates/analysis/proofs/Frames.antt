@@ -7,7 +7,7 @@ use lib.Dec.{T, eqb, eqb→eq}
 use lib.IntN.{ℤ}
 use lib.ListN.{length}
 use lib.Ieee.{Float}
-use borrow.Author.Tests.{not_true, not-false, eq-eqb, ne_eqb}
+use borrow.Author.Tests.{not-true, not-false, eq-eqb, ne_eqb}
 use Rattle.config.specs.Config.{valid, nf}
 use Rattle.refusals.proofs.Verdicts.{went_on}
 use Rattle.analysis.specs.declared.Channel.{Channel}
@@ -16,22 +16,22 @@ use Rattle.analysis.specs.Analysis.{kept_of, channel_of, channel_past, Lent, Giv
 
 -- the number, from the tests one after the other; v is what the code's test of the configuration gave
 module _ (c : ℕ) (x : Lent) {v : Bool} (e : v ≡ valid c) where
-  pub says-1 : not v ≡ true → 1 ≡ number c x
-  says-1 h = simp (sym e ∙ not_true v h)
+  pub says_1 : not v ≡ true → 1 ≡ number c x
+  says_1 h = simp (sym e ∙ not-true v h)
 
   module _ (h : not v ≡ false) where
     ok : valid c ≡ true
     ok = sym e ∙ not-false v h
 
-    pub says-3 : (length x.input ≡ nf c → ⊥) → 3 ≡ number c x
-    says-3 a = simp (ok, ne_eqb _ _ a)
+    pub says_3 : (length x.input ≡ nf c → ⊥) → 3 ≡ number c x
+    says_3 a = simp (ok, ne_eqb _ _ a)
 
     module _ (a : length x.input ≡ nf c) where
-      pub says-4 : (length x.lines ≡ nf c → ⊥) → 4 ≡ number c x
-      says-4 b = simp (ok, eq-eqb _ _ a, ne_eqb _ _ b)
+      pub says_4 : (length x.lines ≡ nf c → ⊥) → 4 ≡ number c x
+      says_4 b = simp (ok, eq-eqb _ _ a, ne_eqb _ _ b)
 
-      pub says-0 : length x.lines ≡ nf c → 0 ≡ number c x
-      says-0 b = simp (ok, eq-eqb _ _ a, eq-eqb _ _ b)
+      pub says_0 : length x.lines ≡ nf c → 0 ≡ number c x
+      says_0 b = simp (ok, eq-eqb _ _ a, eq-eqb _ _ b)
 
 -- what a call that is not refused has passed
 abbrev pub Passed : ℕ → Lent → Type 0

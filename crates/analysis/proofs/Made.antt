@@ -11,7 +11,7 @@ use Rattle.laws.proofs.Lists.{tab-at}
 use Rattle.config.specs.Config.{valid, nf, z}
 use Rattle.config.proofs.Sound.{sound}
 use Rattle.analysis_steps.specs.Buffer.{past_of, buffer_step, buffer_of}
-use Rattle.analysis_steps.proofs.Buffers.{past-of, past_of-step}
+use Rattle.analysis_steps.proofs.Buffers.{past_of_lem, past_of-step}
 use Rattle.analysis_lines.specs.Lines.{time_buffer}
 use Rattle.analysis_lines.proofs.Made.{fits}
 use Rattle.analysis.specs.Buffers.{Buffers}
@@ -40,11 +40,11 @@ module _ (c : ℕ) (past x : List ℤ) (v : T (valid c)) (hp : length past ≡ n
 pub buffers : Buffers
 unfolding time_buffer buffer_step
 buffers = record {
-  next-buffer = λ c past x v hp hx y.
+  next_buffer = λ c past x v hp hx y.
       let s = sound c v in
       ap (λ (p : List ℤ). p ++ y ++ replicate (z c) (pos 0))
       (ap (λ (p : List ℤ). past_of (nf c) (z c) (buffer_of (nf c) (z c) p)) (next_past c past x v hp hx)
-      ∙ past-of (nf c) (z c) (drop (z c) x) (ap (λ (n : ℕ). n + z c) (last-length c past x v hp hx) ∙ omega arith)
+      ∙ past_of_lem (nf c) (z c) (drop (z c) x) (ap (λ (n : ℕ). n + z c) (last-length c past x v hp hx) ∙ omega arith)
       ∙ sym (past_of-step (nf c) (z c) past (fits c past x v hp hx) x hx));
 }
 

@@ -1,27 +1,30 @@
 // The analysis channel: its samples, `clear`, and a frame by value and in place.
 // Ported from src/encoder/modified_dct.rs of lc3-codec 0.2.0, and changed: a configuration number picks the tables, the channel goes in by value
 // and comes back, or lends its array, the time buffer is the frame's own, and a call with wrong lengths is refused.
+
+#![tactic(auto)]
+
 ghost use Rattle.std.specs.Prelude.{◌≡◌, T, length};
 ghost use Rattle.config.specs.Config.{valid, nf};
 ghost use Rattle.analysis.specs.Analysis.{channel_of, channel_past, silent, cleared, number, accepted, frames, lent, outcome, outcome_at};
 
 // What a stream keeps between frames: the last samples of the frame before, and zeros at the places that its configuration has no use for.
 #[repr(C)]
-#[derive(Drop)]
+#[derive(Clone, Copy)]
 pub struct Channel {
     pub config: u8,
     pub samples: [i16; 300],
 }
 
 #[repr(C)]
-#[derive(Drop)]
+#[derive(Clone, Copy)]
 pub struct Cleared {
     pub number: u8,
     pub channel: Channel,
 }
 
 #[repr(C)]
-#[derive(Drop)]
+#[derive(Clone, Copy)]
 pub struct Framed {
     pub number: u8,
     pub channel: Channel,

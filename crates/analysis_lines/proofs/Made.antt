@@ -18,7 +18,7 @@ use Rattle.analysis_lines.specs.Lines.{time_buffer, mdct, lines_of}
 
 -- a configuration's frame has a length that the DCT takes
 pub dct_takes : (c n : ℕ) → T (valid c) → n ≡ nf c → T (among dct_lengths n)
-dct_takes c n v e = subst (λ (m : ℕ). T (among dct_lengths m)) (sym e) (sound c v).dct-length
+dct_takes c n v e = subst (λ (m : ℕ). T (among dct_lengths m)) (sym e) (sound c v).dct_length
 
 module _ (c : ℕ) (past x : List ℤ) (v : T (valid c)) (hp : length past ≡ nf c - z c) (hx : length x ≡ nf c) where
   -- the past and the zeros are a frame's length

@@ -1,5 +1,8 @@
 // The first half of an analysis frame over the configuration: frame and past to lines. No refusals here, and no channel.
 // Ported from src/encoder/modified_dct.rs of lc3-codec 0.2.0, and changed: a configuration number picks the tables, and the time buffer is not made.
+
+#![tactic(auto)]
+
 ghost use Rattle.std.specs.Prelude.{◌≡◌, ◌-◌, T, length};
 ghost use Rattle.config.specs.Config.{valid, nf, z};
 ghost use Rattle.windows.specs.Windows.{window};

@@ -24,9 +24,9 @@ onto_quiet n s =
 
 module _ (n z : ℕ) (p : List ℤ) (fits : length p + z ≡ n) where
   -- a buffer that holds a past gives it
-  pub past-of : past_of n z (buffer_of n z p) ≡ p
+  pub past_of_lem : past_of n z (buffer_of n z p) ≡ p
   unfolding past_of buffer_of
-  past-of =
+  past_of_lem =
       ap (λ (l : List ℤ). take (n - z) (drop n l)) (append_assoc (quiet n) p (quiet z))
       ∙ ap (take (n - z)) (drop_at (quiet n) (p ++ quiet z) n (length-replicate n (pos 0)))
       ∙ take_at p (quiet z) (n - z) (omega arith)
@@ -34,7 +34,7 @@ module _ (n z : ℕ) (p : List ℤ) (fits : length p + z ≡ n) where
   -- so the step is the past, the frame and zeros
   pub step_of : (x : List ℤ) → buffer_step n z (buffer_of n z p) x ≡ p ++ x ++ quiet z
   unfolding buffer_step
-  step_of x = ap (λ (l : List ℤ). l ++ x ++ quiet z) past-of
+  step_of x = ap (λ (l : List ℤ). l ++ x ++ quiet z) past_of_lem
 
   -- and the past that it holds is the frame's last samples
   pub past_of-step : (x : List ℤ) → length x ≡ n → past_of n z (buffer_step n z (buffer_of n z p) x) ≡ drop z x

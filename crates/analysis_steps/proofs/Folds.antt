@@ -17,13 +17,13 @@ use Rattle.analysis_steps.proofs.Parts.{rest, get_or-rest}
 
 -- place j of two lists, one behind the other, weighed: it is in the first, in the second, or in zeros
 module _ (a b : List ℤ) (w : List ℕ) (j k : ℕ) where
-  weighed-front : j ≡ k → k < length a → weighed a w k ≡ weighed (a ++ b) w j
+  weighed_front : j ≡ k → k < length a → weighed a w k ≡ weighed (a ++ b) w j
   unfolding weighed
-  weighed-front e h = rw (e, get_or-append a b (pos 0) k h)
+  weighed_front e h = rw (e, get_or-append a b (pos 0) k h)
 
-  weighed-back : j ≡ length a + k → weighed b (rest (length a) w) k ≡ weighed (a ++ b) w j
+  weighed_back : j ≡ length a + k → weighed b (rest (length a) w) k ≡ weighed (a ++ b) w j
   unfolding weighed
-  weighed-back e = rw (e, get_or-append-add a b k (pos 0), get_or-rest (length a) w k)
+  weighed_back e = rw (e, get_or-append-add a b k (pos 0), get_or-rest (length a) w k)
 
 weighed-quiet : (a : List ℤ) (z : ℕ) (w : List ℕ) (j k : ℕ) → j ≡ length a + k → k < z → still w (length a + k) ≡ weighed (a ++ quiet z) w j
 unfolding weighed of_int of_bits
@@ -31,21 +31,21 @@ weighed-quiet a z w j k e h = rw (e, get_or-append-add a (quiet z) k (pos 0), ge
 
 -- the first half: the frame's run, and the run that meets the zeros
 module _ (x : List ℤ) (w : List ℕ) (z h : ℕ) (small : z ≤ h) (whole : length x ≡ 2 * h) where
-  pub frame-run : (i : ℕ) → i < h - z → low_at x w (h + z) i ≡ low_at (x ++ quiet z) w (h + z) i
-  frame-run i b = ap₂ low (weighed-front x (quiet z) w _ _ refl (omega arith)) (weighed-front x (quiet z) w _ _ refl (omega arith))
+  pub frame_run : (i : ℕ) → i < h - z → low_at x w (h + z) i ≡ low_at (x ++ quiet z) w (h + z) i
+  frame_run i b = ap₂ low (weighed_front x (quiet z) w _ _ refl (omega arith)) (weighed_front x (quiet z) w _ _ refl (omega arith))
 
-  pub zeros-run : (i : ℕ) → i < h - (h - z) → low (weighed x w (2 * z - 1 - i)) (still w (length x + i)) ≡ low_at (x ++ quiet z) w (h + z) (h - z + i)
-  zeros-run i b = ap₂ low (weighed-front x (quiet z) w _ _ (omega arith) (omega arith)) (weighed-quiet x z w _ i (omega arith) (omega arith))
+  pub zeros_run : (i : ℕ) → i < h - (h - z) → low (weighed x w (2 * z - 1 - i)) (still w (length x + i)) ≡ low_at (x ++ quiet z) w (h + z) (h - z + i)
+  zeros_run i b = ap₂ low (weighed_front x (quiet z) w _ _ (omega arith) (omega arith)) (weighed-quiet x z w _ i (omega arith) (omega arith))
 
 -- the second half: the run that meets the frame, and the past's
 module _ (past x : List ℤ) (w : List ℕ) (z h : ℕ) (small : z ≤ h) (whole : length past + z ≡ 2 * h) where
-  pub meet-run : (i : ℕ) → i < z → sub binary32 (weighed past w (0 + i)) (weighed x (rest (length past) w) (z - 1 - i)) ≡ fold_high h w (past ++ x) i
+  pub meet_run : (i : ℕ) → i < z → sub binary32 (weighed past w (0 + i)) (weighed x (rest (length past) w) (z - 1 - i)) ≡ fold_high h w (past ++ x) i
   unfolding fold_high
-  meet-run i b = ap₂ (sub binary32) (weighed-front past x w _ _ (omega arith) (omega arith)) (weighed-back past x w _ _ (omega arith))
+  meet_run i b = ap₂ (sub binary32) (weighed_front past x w _ _ (omega arith) (omega arith)) (weighed_back past x w _ _ (omega arith))
 
-  pub past-run : (i : ℕ) → i < h - z → sub binary32 (weighed past w (z + i)) (weighed past w (length past - 1 - i)) ≡ fold_high h w (past ++ x) (z + i)
+  pub past_run : (i : ℕ) → i < h - z → sub binary32 (weighed past w (z + i)) (weighed past w (length past - 1 - i)) ≡ fold_high h w (past ++ x) (z + i)
   unfolding fold_high
-  past-run i b = ap₂ (sub binary32) (weighed-front past x w _ _ refl (omega arith)) (weighed-front past x w _ _ (omega arith) (omega arith))
+  past_run i b = ap₂ (sub binary32) (weighed_front past x w _ _ refl (omega arith)) (weighed_front past x w _ _ (omega arith) (omega arith))
 
 -- both halves are the buffer's
 pub halves : (past x : List ℤ) (w : List ℕ) (n z : ℕ) → n ≡ 2 * (n / 2) → length x ≡ n → length past + z ≡ n → z ≤ n / 2
@@ -58,8 +58,8 @@ halves past x w n z even frame fits small =
     let e : n - h ≡ h = omega arith in
     let long = length-append past x in
     ap₂ (λ (s t : List Float). s ++ t)
-    (tab_ext h _ (fold_low h w (past ++ t)) (λ i b. ap₂ low (weighed-back past t w _ _ (omega arith)) (weighed-back past t w _ _ (omega arith)))
+    (tab_ext h _ (fold_low h w (past ++ t)) (λ i b. ap₂ low (weighed_back past t w _ _ (omega arith)) (weighed_back past t w _ _ (omega arith)))
     ∙ ap (λ (l : List ℤ). tab h (fold_low h w l)) (sym (append_assoc past x (quiet z))))
     (ap (λ (i : ℕ). tab i (fold_high i w (past ++ x))) e
-    ∙ tab_ext h _ (fold_high h w (past ++ x ++ quiet z)) (λ i b. ap₂ (sub binary32) (weighed-front (past ++ x) (quiet z) w _ _ refl (omega arith)) (weighed-front (past ++ x) (quiet z) w _ _ refl (omega arith))))
+    ∙ tab_ext h _ (fold_high h w (past ++ x ++ quiet z)) (λ i b. ap₂ (sub binary32) (weighed_front (past ++ x) (quiet z) w _ _ refl (omega arith)) (weighed_front (past ++ x) (quiet z) w _ _ refl (omega arith))))
     ∙ ap (folded n w) (sym (step_of n z past fits x))

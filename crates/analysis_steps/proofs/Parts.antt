@@ -9,7 +9,7 @@ use lib.Seq.{take_at, length-take-le, get_or-drop}
 use borrow.Rule.Slice.PartMut.{mid_of, put_mid}
 use Rattle.laws.specs.Lists.{tab}
 use Rattle.laws.proofs.Lists.{length-tab, tab_ext}
-use Rattle.laws.proofs.Parts.{mid-tail, put-tail}
+use Rattle.laws.proofs.Parts.{mid_tail, put_tail}
 use Rattle.windows.specs.Windows.{Numbers}
 
 -- a window from place a on, as it is lent
@@ -17,10 +17,10 @@ abbrev pub rest : ℕ → List ℕ → List ℕ
 rest a w = take (length w - a) (drop a w)
 
 pub get_or-rest : (a : ℕ) (w : List ℕ) (k : ℕ) → get_or (rest a w) k 0 ≡ get_or w (a + k) 0
-get_or-rest a w k = ap (λ (l : List ℕ). get_or l k 0) (mid-tail a w) ∙ get_or-drop a w k 0
+get_or-rest a w k = ap (λ (l : List ℕ). get_or l k 0) (mid_tail a w) ∙ get_or-drop a w k 0
 
 pub length_rest : (a : ℕ) (w : List ℕ) → length (rest a w) ≡ length w - a
-length_rest a w = ap length (mid-tail a w) ∙ length-drop a w
+length_rest a w = ap length (mid_tail a w) ∙ length-drop a w
 
 pub numbers_rest : (a : ℕ) (w : List ℕ) → Numbers w → Numbers (rest a w)
 numbers_rest a w h k b = rw (get_or-rest a w k) (h (a + k) (omega (arith, length_rest a w)))
@@ -47,5 +47,5 @@ two-parts {X} a l p q f g h e d =
     let r = p ++ drop a l in
     let first : p ≡ tab a (f a) = e ∙ ap (λ (i : ℕ). tab i (f i)) (length-take-le a l h) in
     let n : length p ≡ a = ap length first ∙ length-tab a (f a) in
-    let m : length (mid_of a (length r - a) r) ≡ length l - a = ap length (mid-tail a r) ∙ simp (length-drop, length-append) (omega arith) in
-    put-tail a r q ∙ ap (λ (s : List X). s ++ q) (take_at p (drop a l) a n) ∙ ap₂ (λ (s t : List X). s ++ t) first (d ∙ ap (λ (i : ℕ). tab i (g i)) m)
+    let m : length (mid_of a (length r - a) r) ≡ length l - a = ap length (mid_tail a r) ∙ simp (length-drop, length-append) (omega arith) in
+    put_tail a r q ∙ ap (λ (s : List X). s ++ q) (take_at p (drop a l) a n) ∙ ap₂ (λ (s t : List X). s ++ t) first (d ∙ ap (λ (i : ℕ). tab i (g i)) m)

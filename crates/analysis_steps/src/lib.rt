@@ -1,6 +1,9 @@
 // The steps of an analysis frame, but for the DCT: fold, gain, and what the next frame's fold will read. They know no configuration.
 // Ported from src/encoder/modified_dct.rs of lc3-codec 0.2.0, and changed: a function for each step, lengths and tables as arguments,
 // counted loops in place of iterators; and the time buffer is not made: the fold reads its places from the past and the frame.
+
+#![tactic(auto)]
+
 ghost use Rattle.std.specs.Prelude.{◌≡◌, ◌++◌, ◌+◌, ◌-◌, ◌*◌, ◌≤◌, ◌<◌, pos, length, drop, replicate};
 ghost use Rattle.std.proofs.Math.Seq.{paste};
 ghost use Rattle.std.specs.Float.{binary32};

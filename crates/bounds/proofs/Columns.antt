@@ -25,11 +25,11 @@ module _ (k : ℕ) (K : k ≤ 253) where
   parted : {q r : ℕ} {x y : Complex} → Both k q x → Both k r y → T (ltb (q + r) (2 ^ 24)) → Both k (q + r) (complex.minus x y)
   parted h g t = record { r = less (room K t) h.r g.r; i = less (room K t) h.i g.i }
 
-  plus-quarter : {q r : ℕ} {x y : Complex} → Both k q x → Both k r y → T (ltb (q + r) (2 ^ 24)) → Both k (q + r) (column.plus_quarter x y)
-  plus-quarter h g t = record { r = less (room K t) h.r g.i; i = plus (room K t) h.i g.r }
+  plus_quarter_lem : {q r : ℕ} {x y : Complex} → Both k q x → Both k r y → T (ltb (q + r) (2 ^ 24)) → Both k (q + r) (column.plus_quarter x y)
+  plus_quarter_lem h g t = record { r = less (room K t) h.r g.i; i = plus (room K t) h.i g.r }
 
-  minus-quarter : {q r : ℕ} {x y : Complex} → Both k q x → Both k r y → T (ltb (q + r) (2 ^ 24)) → Both k (q + r) (column.minus_quarter x y)
-  minus-quarter h g t = record { r = plus (room K t) h.r g.i; i = less (room K t) h.i g.r }
+  minus_quarter_lem : {q r : ℕ} {x y : Complex} → Both k q x → Both k r y → T (ltb (q + r) (2 ^ 24)) → Both k (q + r) (column.minus_quarter x y)
+  minus_quarter_lem h g t = record { r = plus (room K t) h.r g.i; i = less (room K t) h.i g.r }
 
   -- times a part of a twiddle
   part : {q : ℕ} {x t : Float} → Size k q x → Size 149 1 t → T (ltb (q * 1) (2 ^ 24)) → Size k (q * 1) (mul binary32 x t)
@@ -42,8 +42,8 @@ module _ (k : ℕ) (K : k ≤ 253) where
   halved h = record { r = product (room K tt) (omega arith) (raise 2 1 h.r) half_size; i = product (room K tt) (omega arith) (raise 2 1 h.i) half_size }
 
   -- two numbers' product, of which the one is a twiddle
-  pub by-twiddle : {i j : ℕ} {x y : Complex} → i + j ≡ k + 149 → Both i 1 x → Both j 1 y → Both k 2 (complex.times x y)
-  by-twiddle e h g =
+  pub by_twiddle : {i j : ℕ} {x y : Complex} → i + j ≡ k + 149 → Both i 1 x → Both j 1 y → Both k 2 (complex.times x y)
+  by_twiddle e h g =
       record {
         r = less (room K tt) (product (room K tt) e h.r g.r) (product (room K tt) e h.i g.i);
         i = plus (room K tt) (product (room K tt) e h.r g.i) (product (room K tt) e h.i g.r);
@@ -70,7 +70,7 @@ module _ (k : ℕ) (K : k ≤ 253) where
       let s3 = joined a b tt in
       let s0 = scaled (parted a b tt) g.i tt in
       let x = parted c.first (halved s3) tt in
-      each_at {P = Both (k + grow 3) 1} _ q (also (up (grow 3) (joined c.first s3 tt) tt) (also (up (grow 3) (plus-quarter x s0 tt) tt) (also (up (grow 3) (minus-quarter x s0 tt) tt) none))) Q
+      each_at {P = Both (k + grow 3) 1} _ q (also (up (grow 3) (joined c.first s3 tt) tt) (also (up (grow 3) (plus_quarter_lem x s0 tt) tt) (also (up (grow 3) (minus_quarter_lem x s0 tt) tt) none))) Q
 
   pub by4 : (v : ℕ → Complex) → Column k 4 v → (inverse : Bool) → (q : ℕ) → q < 4 → Both (k + grow 4) 1 (column.four inverse v q)
   by4 v c inverse q Q =
@@ -81,8 +81,8 @@ module _ (k : ℕ) (K : k ≤ 253) where
       let s = joined c.first b tt in
       let s3 = joined a d tt in
       let s4 = parted a d tt in
-      let l = plus-quarter s5 s4 tt in
-      let r = minus-quarter s5 s4 tt in
+      let l = plus_quarter_lem s5 s4 tt in
+      let r = minus_quarter_lem s5 s4 tt in
       each_at {P = Both (k + grow 4) 1} _ q
       (also (up (grow 4) (joined s s3 tt) tt) (also (up (grow 4) (either inverse l r) tt) (also (up (grow 4) (parted s s3 tt) tt) (also (up (grow 4) (either inverse r l) tt) none)))) Q
 

@@ -19,10 +19,10 @@ use Rattle.bounds.specs.Within.{Each}
 use Rattle.bounds.specs.Size.{Size, Both}
 use Rattle.bounds.specs.Growth.{growth}
 use Rattle.bounds.proofs.Bound.{room, minus, product}
-use Rattle.bounds.proofs.Columns.{by-twiddle, up}
+use Rattle.bounds.proofs.Columns.{by_twiddle, up}
 use Rattle.bounds.proofs.Lists.{each_at, each-tab}
-use Rattle.bounds.proofs.Work.{transform-bound}
-use Rattle.bounds.proofs.Tables.{fft-small, dct-small}
+use Rattle.bounds.proofs.Work.{transform_bound}
+use Rattle.bounds.proofs.Tables.{fft_small, dct_small}
 
 double_size : Size 150 1 double
 unfolding of_bits
@@ -46,7 +46,7 @@ module _ (n : ℕ) (s : T (among fft_sizes n)) (k : ℕ) (K : k + 3 + growth (pl
   value i I = each_at nan i each (omega arith)
 
   twiddled : {j : ℕ} {i : ℕ} {x : Complex} → j ≤ 253 → i < n → Both j 1 x → Both (j + 1) 1 (times (d i) x)
-  twiddled {j} {i} J I h = up j J 1 (by-twiddle j J (omega arith) (dct-small n s i I) h) tt
+  twiddled {j} {i} J I h = up j J 1 (by_twiddle j J (omega arith) (dct_small n s i I) h) tt
 
   points : (i : ℕ) → i < n → Both (k + 1) 1 (point d buf i)
   points i I = twiddled (omega arith) I (record { r = value (2 * i) (omega arith); i = value (length buf - 2 * i - 1) (omega arith) })
@@ -66,7 +66,7 @@ module _ (n : ℕ) (s : T (among fft_sizes n)) (k : ℕ) (K : k + 3 + growth (pl
   results i I =
       let p = sized n s in
       twiddled (omega arith) I
-      (transform-bound n (twiddle n false) false (fft-small n s) (k + 1) input inputs (plan n) p.plan-radixes p.whole (omega arith) i I)
+      (transform_bound n (twiddle n false) false (fft_small n s) (k + 1) input inputs (plan n) p.plan_radixes p.whole (omega arith) i I)
 
   place : (i : ℕ) → i < length buf → Size (top + 1 + 1) 1 (placed z (length buf) i)
   place i I = go (eqb (i % 2) 0)

@@ -90,8 +90,8 @@ module _ (k : ℕ) (K : k ≤ 60) where
 
   -- of n shares, each of q steps at most
   module _ (n q : ℕ) (N : 0 < n) (most : n ≤ 2 ^ 16) (over : 2 ^ 16 ≤ q * n) (under : q * n ≤ 2 ^ 17) where
-    q-some : q ≤ 2 ^ 17
-    q-some = le_trans (le_trans (le_of_eq (sym (mul-one q))) (mul-le-mul_left q N)) under
+    q_some : q ≤ 2 ^ 17
+    q_some = le_trans (le_trans (le_of_eq (sym (mul-one q))) (mul-le-mul_left q N)) under
 
     share_part : (x : Float) → Within (2 ^ k) 1 x → Part unit q (share n x)
     unfolding share unit
@@ -104,14 +104,14 @@ module _ (k : ℕ) (K : k ≤ 60) where
         let split : 2 * k + 149 ≡ 16 + (2 * k + 133) = omega arith in
         let l : 1 * 2 ^ (2 * k + 149) ≤ q * 2 ^ (2 * k + 133) * n =
         le_trans (le_of_eq (one-mul (2 ^ (2 * k + 149)) ∙ ap (λ (m : ℕ). 2 ^ m) split ∙ pow-add 2 16 (2 * k + 133))) (le_trans (mul-le-mul_right (2 ^ (2 * k + 133)) over) (le_of_eq (mul_right_comm q n (2 ^ (2 * k + 133))))) in
-        record { size = quotient n (of_int binary32 (pos n)) (some q q-some) N l s w; sign = div-plus n (mul binary32 x x) (of_int binary32 (pos n)) N s (square-plus x u) (whole-plus n) w }
+        record { size = quotient n (of_int binary32 (pos n)) (some q q_some) N l s w; sign = div-plus n (mul binary32 x x) (of_int binary32 (pos n)) N s (square-plus x u) (whole-plus n) w }
 
-    sum-part : (a : ℕ) (acc : Float) (xs : List Float) → Part unit a acc → Each (Within (2 ^ k) 1) xs → a + length xs * q ≤ 2 ^ 17 → Part unit (2 ^ 17) (sum_of (share n) acc xs)
-    sum-part a acc [] p none h = record { size = more (2 ^ 17) (le_trans (le_of_eq (sym (add-zero a) ∙ ap (λ (m : ℕ). a + m) (sym (zero-mul q)))) h) p.size; sign = p.sign }
-    sum-part a acc (x ∷ xs) p (also l0 l) h =
+    sum_part : (a : ℕ) (acc : Float) (xs : List Float) → Part unit a acc → Each (Within (2 ^ k) 1) xs → a + length xs * q ≤ 2 ^ 17 → Part unit (2 ^ 17) (sum_of (share n) acc xs)
+    sum_part a acc [] p none h = record { size = more (2 ^ 17) (le_trans (le_of_eq (sym (add-zero a) ∙ ap (λ (m : ℕ). a + m) (sym (zero-mul q)))) h) p.size; sign = p.sign }
+    sum_part a acc (x ∷ xs) p (also l0 l) h =
         let y = share_part x l0 in
         let h' : a + q + length xs * q ≤ 2 ^ 17 = le_trans (le_of_eq (add_assoc a q (length xs * q) ∙ ap (λ (m : ℕ). a + m) (add_comm q (length xs * q) ∙ sym (suc-mul (length xs) q)))) h in
-        sum-part (a + q) (add binary32 acc (share n x)) xs
+        sum_part (a + q) (add binary32 acc (share n x)) xs
         (record { size = plus (some (a + q) (le_trans (le-add_right (a + q) (length xs * q)) h')) p.size y.size; sign = add-plus acc (share n x) p.sign y.sign }) l h'
 
   whole : {x : Float} → Part unit (2 ^ 17) x → Energy k x
@@ -127,7 +127,7 @@ module _ (k : ℕ) (K : k ≤ 60) where
       let is : q * n ≡ 2 ^ 16 / n * n + n = add-mul (2 ^ 16 / n) 1 n ∙ ap (λ (m : ℕ). 2 ^ 16 / n * n + m) (one-mul n) in
       let over : 2 ^ 16 ≤ q * n = omega (arith, is, div-add-mod' (2 ^ 16) n, mod-lt (2 ^ 16) N) in
       let under : q * n ≤ 2 ^ 17 = omega (arith, is, div-add-mod' (2 ^ 16) n) in
-      whole (sum-part n q N most over under 0 zero32 xs (zero-part unit 0) l (le_trans (le_of_eq (zero-add (length xs * q) ∙ ap (λ (m : ℕ). m * q) e ∙ mul_comm n q)) under))
+      whole (sum_part n q N most over under 0 zero32 xs (zero-part unit 0) l (le_trans (le_of_eq (zero-add (length xs * q) ∙ ap (λ (m : ℕ). m * q) e ∙ mul_comm n q)) under))
 
   band-bound : (xs : List Float) → length xs ≤ 2 ^ 16 → Each (Within (2 ^ k) 1) xs → Energy k (energy xs)
   unfolding energy
@@ -139,7 +139,7 @@ module _ (k : ℕ) (K : k ≤ 60) where
   energies-bound c v lines e a = each-tab (nb c) _ (λ b l. part (get_or (edges c) (b + 1) 0 - get_or (edges c) b 0) (get_or (edges c) b 0))
     where
       short : (n m : ℕ) → length (take n (drop m lines)) ≤ 2 ^ 16
-      short n m = simp (length-take, length-drop) (omega (arith, e, (sound c v).nf-le))
+      short n m = simp (length-take, length-drop) (omega (arith, e, (sound c v).nf_le))
 
       part : (n m : ℕ) → Energy k (energy (take n (drop m lines)))
       part n m = band-bound (take n (drop m lines)) (short n m) (each_take n (each-drop m a))

@@ -23,7 +23,7 @@ use Rattle.bounds.specs.Within.{Within, Each}
 use Rattle.bounds.specs.Size.{Size}
 use Rattle.bounds.proofs.Bound.{room, minus, less, product, raise, plain, sample}
 use Rattle.bounds.proofs.Lists.{each_append, each-tab, each_or, each_map}
-use Rattle.bounds.proofs.Tables.{plan-grows, gain-size, entry_size}
+use Rattle.bounds.proofs.Tables.{plan_grows, gain-size, entry_size}
 use Rattle.bounds.proofs.Dct.{dct-bound}
 
 module _ (c : ℕ) (v : T (valid c)) (t : List ℤ) where
@@ -60,7 +60,7 @@ module _ (c : ℕ) (v : T (valid c)) (t : List ℤ) where
     unfolding mdct scaled
     lines-bound =
         let s = sound c v in
-        let g = plan-grows c v in
+        let g = plan_grows c v in
         each_map (λ (x : Float). mul binary32 x (gain (nf c)))
         (λ x h. plain 30 (product (room (lit≤ tt) tt) (omega (arith, g)) h (gain-size c v)))
-        (dct-bound (half c) s.fft-size 166 (omega (arith, g)) (folded (nf c) (window c) t) (length-folded ∙ even) folded-size)
+        (dct-bound (half c) s.fft_size 166 (omega (arith, g)) (folded (nf c) (window c) t) (length-folded ∙ even) folded-size)

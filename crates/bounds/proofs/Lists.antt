@@ -26,12 +26,12 @@ module _ {A : Type 0} {P : A → Type 0} where
   each-replicate zero x h = none
   each-replicate (suc n) x h = also h (each-replicate n x h)
 
-  each-onto : {xs ys : List A} → Each P xs → Each P ys → Each P (reverse_aux xs ys)
-  each-onto none b = b
-  each-onto (also h a) b = each-onto a (also h b)
+  each_onto : {xs ys : List A} → Each P xs → Each P ys → Each P (reverse_aux xs ys)
+  each_onto none b = b
+  each_onto (also h a) b = each_onto a (also h b)
 
   pub each-reverse : {xs : List A} → Each P xs → Each P (reverse xs)
-  each-reverse a = each-onto a none
+  each-reverse a = each_onto a none
 
   pub each-tab : (n : ℕ) (f : ℕ → A) → ((k : ℕ) → k < n → P (f k)) → Each P (tab n f)
   unfolding tab
@@ -61,8 +61,8 @@ module _ {A : Type 0} {P : A → Type 0} where
   each_map f w none = none
   each_map f w (also {x} h a) = also (w x h) (each_map f w a)
 
-  pub each-zip : {B C : Type 0} {Q : B → Type 0} {R : C → Type 0} (f : A → B → C) → ((x : A) (y : B) → P x → Q y → R (f x y)) → {xs : List A} {ys : List B} → Each P xs → Each Q ys → Each R (zip_with f xs ys)
+  pub each_zip : {B C : Type 0} {Q : B → Type 0} {R : C → Type 0} (f : A → B → C) → ((x : A) (y : B) → P x → Q y → R (f x y)) → {xs : List A} {ys : List B} → Each P xs → Each Q ys → Each R (zip_with f xs ys)
   unfolding zip_with
-  each-zip f w none b = none
-  each-zip f w (also h a) none = none
-  each-zip f w (also {x} h a) (also {x = y} g b) = also (w x y h g) (each-zip f w a b)
+  each_zip f w none b = none
+  each_zip f w (also h a) none = none
+  each_zip f w (also {x} h a) (also {x = y} g b) = also (w x y h g) (each_zip f w a b)

@@ -19,8 +19,8 @@ use Rattle.synthesis_samples.specs.Samples.{places_of, samples_of, memory_of}
 use Rattle.bounds.specs.Within.{Within, Each}
 use Rattle.bounds.specs.Size.{Size}
 use Rattle.bounds.proofs.Bound.{room, plus, minus, product, more, sized, one_over, zero_size}
-use Rattle.bounds.proofs.Lists.{each_append, each_take, each-drop, each-replicate, each-reverse, each_map, each-zip, each_weaken}
-use Rattle.bounds.proofs.Tables.{plan-grows, gain-size, entries_size}
+use Rattle.bounds.proofs.Lists.{each_append, each_take, each-drop, each-replicate, each-reverse, each_map, each_zip, each_weaken}
+use Rattle.bounds.proofs.Tables.{plan_grows, gain-size, entries_size}
 use Rattle.bounds.proofs.Dct.{dct-bound}
 
 -- what passes 6 is at most 2 ^ 60
@@ -48,11 +48,11 @@ module _ (c : ℕ) (v : T (valid c)) where
   unfolding places_of places padded scaled windowed
   places-bound x e a =
       let s = sound c v in
-      let g = plan-grows c v in
+      let g = plan_grows c v in
       let h = half c in
       let b : Each (Size 209 1) (padded (2 * h) x) = each_append (each_weaken (λ y t. sized 60 y (six-within y t)) a) (each-replicate (2 * h - length x) zero32 (zero_size 209 1)) in
-      let d = dct-bound h s.fft-size 209 (omega (arith, g)) (padded (2 * h) x) (length-padded (2 * h) x (omega (arith, e, s.ne-le, s.even))) b in
-      each-zip (mul binary32) (λ x y p q. product (room (lit≤ tt) tt) refl p q)
+      let d = dct-bound h s.fft_size 209 (omega (arith, g)) (padded (2 * h) x) (length-padded (2 * h) x (omega (arith, e, s.ne_le, s.even))) b in
+      each_zip (mul binary32) (λ x y p q. product (room (lit≤ tt) tt) refl p q)
       (each_map {Q = Size 222 1} (λ (y : Float). mul binary32 y (gain (nf c))) (λ y u. product (room (lit≤ tt) tt) (omega (arith, g)) u (gain-size c v)) (unfolded-each h d))
       (each_map {Q = Size 150 1} (of_bits binary32) (λ b u. u) (each-reverse (entries_size c v)))
 
@@ -65,5 +65,5 @@ module _ (c : ℕ) (v : T (valid c)) where
   unfolding samples_of output
   samples-bound past x p e a =
       let t = places-bound x e a in
-      each_append (each-zip (add binary32) (λ x y p q. plus (room (lit≤ tt) tt) p q) p (each_take (nf c - z c) (each-drop (z c) t)))
+      each_append (each_zip (add binary32) (λ x y p q. plus (room (lit≤ tt) tt) p q) p (each_take (nf c - z c) (each-drop (z c) t)))
       (each_weaken (λ x h. more 2 (lit≤ tt) h) (each_take (z c) (each-drop (nf c) t)))

@@ -63,15 +63,15 @@ module _ (n : ℕ) (s : T (among fft_sizes n)) where
   ours : T (among sizes n)
   ours = subst T (twiddles.same_sizes n) s
 
-  pub fft-small : (i : ℕ) → i < n → Small (twiddle n false i)
+  pub fft_small : (i : ℕ) → i < n → Small (twiddle n false i)
   unfolding twiddle fft_im_of
-  fft-small =
+  fft_small =
       let l = twiddles.sized n ours in
       both_small n (fft_re n) (fft_im n) l.fft-re l.fft-im (and_l (ones (fft_re n) && ones (fft_im n)) _ (at-among small sizes small_test n ours))
 
-  pub dct-small : (i : ℕ) → i < n → Small (dct_twiddle n i)
+  pub dct_small : (i : ℕ) → i < n → Small (dct_twiddle n i)
   unfolding dct_twiddle
-  dct-small =
+  dct_small =
       let l = twiddles.sized n ours in
       both_small n (dct_re n) (dct_im n) l.dct-re l.dct-im (and_r (ones (fft_re n) && ones (fft_im n)) _ (at-among small sizes small_test n ours))
 
@@ -84,8 +84,8 @@ pub tame_all : (c : ℕ) → T (valid c) → T (tame c)
 tame_all = each tame tame_test
 
 module _ (c : ℕ) (v : T (valid c)) where
-  pub plan-grows : growth (plan (half c)) ≤ 14
-  plan-grows = leb→le _ 14 (and_l (leb (growth (plan (half c))) 14) _ (tame_all c v))
+  pub plan_grows : growth (plan (half c)) ≤ 14
+  plan_grows = leb→le _ 14 (and_l (leb (growth (plan (half c))) 14) _ (tame_all c v))
 
   pub gain-size : Size (159 - growth (plan (half c))) 1 (gain (nf c))
   gain-size = size_of _ (gain (nf c)) (and_r (leb (growth (plan (half c))) 14) _ (tame_all c v))
@@ -93,7 +93,7 @@ module _ (c : ℕ) (v : T (valid c)) where
 -- ---- the window: every entry is at most 2
 pub entry_size : (c : ℕ) → T (valid c) → (k : ℕ) → k < 2 * nf c → Size 150 1 (of_bits binary32 (get_or (windows.window c) k 0))
 unfolding windows.small
-entry_size c v k h = sized 1 (of_bits binary32 (get_or (windows.window c) k 0)) (go (of_bits binary32 (get_or (windows.window c) k 0)) (rule.window-small c v k h))
+entry_size c v k h = sized 1 (of_bits binary32 (get_or (windows.window c) k 0)) (go (of_bits binary32 (get_or (windows.window c) k 0)) (rule.window_small c v k h))
   where
     go : (x : Float) → T (windows.small x) → Within (2 ^ 1) 1 x
     go nan t = t
@@ -101,4 +101,4 @@ entry_size c v k h = sized 1 (of_bits binary32 (get_or (windows.window c) k 0)) 
     go (fin s m e) t = one_over (m * up e) (2 * down e) t
 
 pub entries_size : (c : ℕ) → T (valid c) → Each (λ b. Size 150 1 (of_bits binary32 b)) (windows.window c)
-entries_size c v = each_of 0 (windows.window c) (λ k h. entry_size c v k (subst (λ (n : ℕ). k < n) (rule.window-length c v) h))
+entries_size c v = each_of 0 (windows.window c) (λ k h. entry_size c v k (subst (λ (n : ℕ). k < n) (rule.window_length c v) h))

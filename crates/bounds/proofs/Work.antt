@@ -10,10 +10,10 @@ use borrow.Author.Tests.{lt-ltb}
 use Rattle.complex.specs.declared.Complex.{Complex}
 use Rattle.butterflies.specs.Butterflies.{stage, twist, column2, column3, column4, column5}
 use Rattle.kf_work.specs.Work.{span, planned, column, work}
-use Rattle.kf_work.proofs.Plan.{split, inner-positive, sub-nums}
+use Rattle.kf_work.proofs.Plan.{split, inner_positive, sub_nums}
 use Rattle.bounds.specs.Size.{Both, Small}
 use Rattle.bounds.specs.Growth.{Column, grow, growth}
-use Rattle.bounds.proofs.Columns.{by-twiddle, by2, by3, by4, by5}
+use Rattle.bounds.proofs.Columns.{by_twiddle, by2, by3, by4, by5}
 
 -- ---- numbers of a stage
 -- twiddle q * (j * s) is in the table
@@ -37,14 +37,14 @@ module _ (N : ℕ) (t : ℕ → Complex) (inverse : Bool) (small : (i : ℕ) →
     -- as its butterfly is handed it
     twisted : (k : ℕ) → k ≤ 253 → (c : ℕ → Complex) → 0 < p → ((q : ℕ) → q < p → Both k 1 (c q)) → Column k p (twist t (j * s) c)
     twisted k K c P C =
-        record { first = C 0 P; others = λ q Q. by-twiddle k K refl (C (suc q) Q) (small (suc q * (j * s)) (twiddle_in (suc q) j m p s N J Q S e)) }
+        record { first = C 0 P; others = λ q Q. by_twiddle k K refl (C (suc q) Q) (small (suc q * (j * s)) (twiddle_in (suc q) j m p s N J Q S e)) }
 
     -- a p-th of a turn, and more
     fraction : (q : ℕ) → q < p → Small (t (q * (s * m)))
     fraction q Q = small (q * (s * m)) (lt_of_lt_of_le (mul-lt-mul_of_pos_right Q (mul-pos S (lt_of_le_of_lt zero-le J))) (le_of_eq (mul_left_comm p s m ∙ e)))
 
-    one-fraction : 1 < p → Small (t (s * m))
-    one-fraction Q = subst (λ (n : ℕ). Small (t n)) (one-mul (s * m)) (fraction 1 Q)
+    one_fraction : 1 < p → Small (t (s * m))
+    one_fraction Q = subst (λ (n : ℕ). Small (t n)) (one-mul (s * m)) (fraction 1 Q)
 
   pub column-bound : (k : ℕ) → k ≤ 253 → (p s m j : ℕ) → 2 ≤ p → p ≤ 5 → 0 < s → s * (p * m) ≡ N → j < m → (c : ℕ → Complex) → ((q : ℕ) → q < p → Both k 1 (c q))
       → (q : ℕ) → q < p → Both (k + grow p) 1 (column t inverse s p m j c q)
@@ -52,10 +52,10 @@ module _ (N : ℕ) (t : ℕ → Complex) (inverse : Bool) (small : (i : ℕ) →
   column-bound k K zero s m j l u S e J c C = absurd (omega arith)
   column-bound k K (suc zero) s m j l u S e J c C = absurd (omega arith)
   column-bound k K (suc (suc zero)) s m j l u S e J c C = by2 k K (twist t (j * s) c) (twisted 2 s m j S e J k K c (lit< tt) C)
-  column-bound k K (suc (suc (suc zero))) s m j l u S e J c C = by3 k K (twist t (j * s) c) (twisted 3 s m j S e J k K c (lit< tt) C) (t (s * m)) (one-fraction 3 s m j S e J (lit< tt))
+  column-bound k K (suc (suc (suc zero))) s m j l u S e J c C = by3 k K (twist t (j * s) c) (twisted 3 s m j S e J k K c (lit< tt) C) (t (s * m)) (one_fraction 3 s m j S e J (lit< tt))
   column-bound k K (suc (suc (suc (suc zero)))) s m j l u S e J c C = by4 k K (twist t (j * s) c) (twisted 4 s m j S e J k K c (lit< tt) C) inverse
   column-bound k K (suc (suc (suc (suc (suc zero))))) s m j l u S e J c C =
-      by5 k K (twist t (j * s) c) (twisted 5 s m j S e J k K c (lit< tt) C) (t (s * m)) (t (2 * (s * m))) (one-fraction 5 s m j S e J (lit< tt)) (fraction 5 s m j S e J 2 (lit< tt))
+      by5 k K (twist t (j * s) c) (twisted 5 s m j S e J k K c (lit< tt) C) (t (s * m)) (t (2 * (s * m))) (one_fraction 5 s m j S e J (lit< tt)) (fraction 5 s m j S e J 2 (lit< tt))
   column-bound k K (suc (suc (suc (suc (suc (suc p)))))) s m j l u S e J c C = absurd (omega arith)
 
   -- ---- the whole FFT, of numbers x whose parts are at most 2 ^ k steps
@@ -66,14 +66,14 @@ module _ (N : ℕ) (t : ℕ → Complex) (inverse : Bool) (small : (i : ℕ) →
     work-bound (p ∷ []) h s o O e K i I = absurd h
     work-bound (p ∷ m ∷ ps) h s o O e K i I =
         let d = split p m ps h in
-        let M = inner-positive (p ∷ m ∷ ps) p m ps d in
+        let M = inner_positive (p ∷ m ∷ ps) p m ps d in
         let same : s * p * span ps ≡ N = mul_assoc s p (span ps) ∙ ap (λ (n : ℕ). s * (p * n)) (sym d.inner) ∙ e in
         let inner : (j : ℕ) → j < p * m → Both (k + growth ps) 1 (work t inverse x ps (s * p) (o + j / m * s) (j % m)) =
-        λ j J. work-bound ps d.rest-planned (s * p) (o + j / m * s) (sub-nums (p ∷ m ∷ ps) p m ps d s o (j / m) O (part_in j m p J)).3 same (omega arith) (j % m) (subst (λ (n : ℕ). j % m < n) d.inner (mod-lt j M)) in
+        λ j J. work-bound ps d.rest-planned (s * p) (o + j / m * s) (sub_nums (p ∷ m ∷ ps) p m ps d s o (j / m) O (part_in j m p J)).3 same (omega arith) (j % m) (subst (λ (n : ℕ). j % m < n) d.inner (mod-lt j M)) in
         subst (λ (n : ℕ). Both n 1 (work t inverse x (p ∷ m ∷ ps) s o i)) (add_assoc k (growth ps) (grow p))
         (rw (lt-ltb i (p * m) I)
         (column-bound (k + growth ps) (omega arith) p s m (i % m) d.at_least d.at_most (lt_of_le_of_lt zero-le O) e (mod-lt i M) _ (λ q Q. inner (i % m + m * q) (place_in i m p q M Q)) (i / m) (part_in i m p I)))
 
     -- from the first input on, and all of them
-    pub transform-bound : (ps : List ℕ) → T (planned ps) → span ps ≡ N → k + growth ps ≤ 253 → (i : ℕ) → i < N → Both (k + growth ps) 1 (work t inverse x ps 1 0 i)
-    transform-bound ps h e K i I = work-bound ps h 1 0 (lit< tt) (one-mul (span ps) ∙ e) K i (subst (λ (m : ℕ). i < m) (sym e) I)
+    pub transform_bound : (ps : List ℕ) → T (planned ps) → span ps ≡ N → k + growth ps ≤ 253 → (i : ℕ) → i < N → Both (k + growth ps) 1 (work t inverse x ps 1 0 i)
+    transform_bound ps h e K i I = work-bound ps h 1 0 (lit< tt) (one-mul (span ps) ∙ e) K i (subst (λ (m : ℕ). i < m) (sym e) I)

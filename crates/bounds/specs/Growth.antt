@@ -32,8 +32,8 @@ tame c = leb (growth (plan (half c))) 14 && upto (159 - growth (plan (half c))) 
 -- Exponents go to 253: a count below 2^24 of 2^253 steps is still an f32.
 pub record Growth : Type 0 where
   -- no part of a twiddle that the DCT or its FFT reads is above 1
-  pub fft-small : (n : ℕ) → T (among fft_sizes n) → (i : ℕ) → i < n → Small (twiddle n false i)
-  pub dct-small : (n : ℕ) → T (among fft_sizes n) → (i : ℕ) → i < n → Small (dct_twiddle n i)
+  pub fft_small : (n : ℕ) → T (among fft_sizes n) → (i : ℕ) → i < n → Small (twiddle n false i)
+  pub dct_small : (n : ℕ) → T (among fft_sizes n) → (i : ℕ) → i < n → Small (dct_twiddle n i)
   -- the butterflies
   pub twos : (k : ℕ) → k ≤ 253 → (v : ℕ → Complex) → Column k 2 v → (q : ℕ) → q < 2 → Both (k + grow 2) 1 (two v q)
   pub threes : (k : ℕ) → k ≤ 253 → (v : ℕ → Complex) → Column k 3 v → (y : Complex) → Small y → (q : ℕ) → q < 3 → Both (k + grow 3) 1 (three y v q)

@@ -12,7 +12,7 @@ use lib.ListN.{length}
 use Rattle.complex.specs.declared.Complex.{Complex}
 use Rattle.complex.specs.Complex.{at}
 use Rattle.quads.specs.Rows.{rows, turned, turned_columns}
-use Rattle.quads.proofs.Rows.{col_of, rows_at, rows-off, Through}
+use Rattle.quads.proofs.Rows.{col_of, rows_at, rows_off, Through}
 use Rattle.butterflies.specs.Butterflies.{stage}
 
 module _ (p m : ℕ) (b : ℕ → (ℕ → Complex) → ℕ → Complex) where
@@ -38,7 +38,7 @@ module _ (p m : ℕ) (b : ℕ → (ℕ → Complex) → ℕ → Complex) where
   unfolding Done stage
   done_more loc o th n f g g' i h d stored =
       rw stored (λ k. (
-        λ l. elim (dec_lt (k % m) i) [ yes lt ↦ same k (λ c s e. omega arith) ∙ (d k).0 lt | no ge ↦ inside-or-past k (k % m - i) (omega arith) (omega arith) ],
+        λ l. elim (dec_lt (k % m) i) [ yes lt ↦ same k (λ c s e. omega arith) ∙ (d k).0 lt | no ge ↦ inside-or_past k (k % m - i) (omega arith) (omega arith) ],
         λ l. same k (λ c s e. omega arith) ∙ (d k).1 (omega arith),
       ))
     where
@@ -46,10 +46,10 @@ module _ (p m : ℕ) (b : ℕ → (ℕ → Complex) → ℕ → Complex) where
       v c = turned m b g (i + c)
 
       same : (k : ℕ) → ((c : ℕ) → c < n → k % m ≡ i + c → ⊥) → rows n m g i o v p k ≡ g k
-      same k off = rows-off n m g i o v h p k (λ c q l b e s. off c l e)
+      same k off = rows_off n m g i o v h p k (λ c q l b e s. off c l e)
 
-      inside-or-past : (k c : ℕ) → c < n → k % m ≡ i + c → rows n m g i o v p k ≡ stage p m b f k
-      inside-or-past k c l e = elim (dec_lt k (p * m)) [ yes lt ↦ inside lt | no ge ↦ outside ge ]
+      inside-or_past : (k c : ℕ) → c < n → k % m ≡ i + c → rows n m g i o v p k ≡ stage p m b f k
+      inside-or_past k c l e = elim (dec_lt k (p * m)) [ yes lt ↦ inside lt | no ge ↦ outside ge ]
         where
           pos : 0 < m
           pos = omega arith
@@ -65,11 +65,11 @@ module _ (p m : ℕ) (b : ℕ → (ℕ → Complex) → ℕ → Complex) where
           outside : (k < p * m → ⊥) → rows n m g i o v p k ≡ stage p m b f k
           outside ge =
               let past : p * m ≤ k = omega arith in
-              rw (le-ltb k (p * m) past) (rows-off n m g i o v h p k (λ c q l b e s. ge ((div-lt_iff_lt-mul pos).0 (rw s (th.into q b)))) ∙ (d k).1 (omega arith))
+              rw (le-ltb k (p * m) past) (rows_off n m g i o v h p k (λ c q l b e s. ge ((div-lt_iff_lt-mul pos).0 (rw s (th.into q b)))) ∙ (d k).1 (omega arith))
 
   -- four columns and one are all of five
-  pub done-five : Local → (o : ℕ → ℕ) → Through p o → (f g h : ℕ → Complex) → m ≡ 5 → g ≡ turned_columns 4 p m o b 0 f → h ≡ turned_columns 1 p m o b 4 g → h ≡ stage p m b f
-  done-five loc o th f g h five quad one =
+  pub done_five : Local → (o : ℕ → ℕ) → Through p o → (f g h : ℕ → Complex) → m ≡ 5 → g ≡ turned_columns 4 p m o b 0 f → h ≡ turned_columns 1 p m o b 4 g → h ≡ stage p m b f
+  done_five loc o th f g h five quad one =
       let whole : Done f h 5 = done_more loc o th 1 f g h 4 (omega arith) (done_more loc o th 4 f f g 0 (omega arith) (done_none f) quad) one in
       fun_ext (done_all f h (omega arith) (rw (← five) at whole))
 
@@ -88,25 +88,25 @@ pub record Singles (p m : ℕ) (b : ℕ → (ℕ → Complex) → ℕ → Comple
   pub done : (f : ℕ → Complex) → Done p m b f (at re₀ im₀) i₀ → Done p m b f (at re im) i
 
 module _ {p m : ℕ} {b : ℕ → (ℕ → Complex) → ℕ → Complex} where
-  pub no-quad : {re im : List Float} → Quads p m b re im re im 0
-  no-quad = record { re-kept = refl; im-kept = refl; low = omega arith; done = done_none p m b _ }
+  pub no_quad : {re im : List Float} → Quads p m b re im re im 0
+  no_quad = record { re-kept = refl; im-kept = refl; low = omega arith; done = done_none p m b _ }
 
-  pub no-single : {re im : List Float} {i : ℕ} → i ≤ m → Singles p m b re im i re im i
-  no-single l = record { re-kept = refl; im-kept = refl; low = l; done = λ f d. d }
+  pub no_single : {re im : List Float} {i : ℕ} → i ≤ m → Singles p m b re im i re im i
+  no_single l = record { re-kept = refl; im-kept = refl; low = l; done = λ f d. d }
 
   -- at the end of both all columns are turned
-  pub all-turned : {re₀ im₀ re₁ im₁ re im : List Float} {q i : ℕ} → 0 < m → Quads p m b re₀ im₀ re₁ im₁ q → m / 4 ≤ q → Singles p m b re₁ im₁ (m / 4 * 4) re im i → m ≤ i
+  pub all_turned : {re₀ im₀ re₁ im₁ re im : List Float} {q i : ℕ} → 0 < m → Quads p m b re₀ im₀ re₁ im₁ q → m / 4 ≤ q → Singles p m b re₁ im₁ (m / 4 * 4) re im i → m ≤ i
       → at re im ≡ stage p m b (at re₀ im₀)
-  all-turned {q = q} {i = i} h s lq s2 li =
+  all_turned {q = q} {i = i} h s lq s2 li =
       let whole : 4 * q ≡ m / 4 * 4 = omega arith in
       let past : i ≡ m = omega arith in
       fun_ext (done_all p m b _ _ h (rw past at (s2.done _ (rw whole at s.done))))
 
 -- one quad more, and one single column more
 module _ (p m : ℕ) (b : ℕ → (ℕ → Complex) → ℕ → Complex) (loc : Local p m b) (o : ℕ → ℕ) (th : Through p o) where
-  pub quad-more : {re₀ im₀ re im re' im' : List Float} {q : ℕ} → Quads p m b re₀ im₀ re im q → q < m / 4 → length re' ≡ length re → length im' ≡ length im
+  pub quad_more : {re₀ im₀ re im re' im' : List Float} {q : ℕ} → Quads p m b re₀ im₀ re im q → q < m / 4 → length re' ≡ length re → length im' ≡ length im
       → at re' im' ≡ turned_columns 4 p m o b (4 * q) (at re im) → Quads p m b re₀ im₀ re' im' (q + 1)
-  quad-more {q = q} s l er ei stored =
+  quad_more {q = q} s l er ei stored =
       let e : 4 * (q + 1) ≡ 4 * q + 4 = omega arith in
       record { re-kept = er ∙ s.re-kept; im-kept = ei ∙ s.im-kept; low = omega arith; done = rw e (done_more p m b loc o th 4 _ _ _ (4 * q) (omega arith) s.done stored) }
 

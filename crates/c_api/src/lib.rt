@@ -1,5 +1,8 @@
 // The entries for C and for Rust: each hands its arguments to an entry of the port, and its answer back. What crosses has C's layout, and a slice
 // crosses as a pointer and a length. New in this port.
+
+#![tactic(auto)]
+
 ghost use Rattle.std.specs.Prelude.{◌≡◌};
 ghost use Rattle.kissfft.specs.Fft as ft;
 ghost use Rattle.dct_iv.specs.DctIv as dc;
@@ -14,7 +17,7 @@ use loudest::Loudest;
 use refusals::Verdict;
 
 #[repr(C)]
-#[derive(Drop)]
+#[derive(Clone, Copy)]
 pub struct LoudestHeard {
     pub number: u8,
     pub index: usize,

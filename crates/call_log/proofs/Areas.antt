@@ -17,8 +17,8 @@ module _ {A : Type 0} {f : ℕ → A} {new : List A} where
   pub area-more : {i : ℕ} {out : List A} (v d : A) → Area f new i out → i < 1024 → v ≡ f i → Area f new (i + 1) (set out i v)
   area-more v d a h e = (omega arith, a.1, filled_more v d a.2 (omega (arith, a.1)) e)
 
-  pub area-all : {i : ℕ} {out : List A} → Area f new i out → 1024 ≤ i → (out ≡ tab 1024 f) × (1024 ≡ length out)
-  area-all {i} {out} a h =
+  pub area_all : {i : ℕ} {out : List A} → Area f new i out → 1024 ≤ i → (out ≡ tab 1024 f) × (1024 ≡ length out)
+  area_all {i} {out} a h =
       let e : i ≡ 1024 = omega (arith, a.0) in
       let whole : out ≡ tab 1024 f = filled_all a.2 (e ∙ sym a.1) ∙ ap (λ (n : ℕ). tab n f) a.1 in
       (whole, sym (ap length whole ∙ length-tab 1024 f))

@@ -65,15 +65,15 @@ module _ (i kind : ℕ) (b : List ℕ) (k : ℕ) (less : i < 6) where
   abbrev on : Taken → Taken
   on t = next t (λ m. fields (6 - (i + 1)) (suc i) kind b (k + m))
 
-  open-fields : fields (6 - i) i kind b k ≡ on (field_taken (drop k b) (field_of kind i))
+  open_fields : fields (6 - i) i kind b k ≡ on (field_taken (drop k b) (field_of kind i))
   unfolding fields
-  open-fields = ap (λ (n : ℕ). fields n i kind b k) one_less
+  open_fields = ap (λ (n : ℕ). fields n i kind b k) one_less
 
-  pub field-stops : field_taken (drop k b) (field_of kind i) ≡ Stopped → Stopped ≡ fields (6 - i) i kind b k
-  field-stops e = sym (open-fields ∙ ap on e)
+  pub field_stops : field_taken (drop k b) (field_of kind i) ≡ Stopped → Stopped ≡ fields (6 - i) i kind b k
+  field_stops e = sym (open_fields ∙ ap on e)
 
-  pub field-goes : (m : ℕ) → field_taken (drop k b) (field_of kind i) ≡ Whole m → fields (6 - (i + 1)) (i + 1) kind b (k + m) ≡ fields (6 - i) i kind b k
-  field-goes m e = ap (λ (j : ℕ). fields (6 - (i + 1)) j kind b (k + m)) (add-one i) ∙ sym (open-fields ∙ ap on e)
+  pub field_goes : (m : ℕ) → field_taken (drop k b) (field_of kind i) ≡ Whole m → fields (6 - (i + 1)) (i + 1) kind b (k + m) ≡ fields (6 - i) i kind b k
+  field_goes m e = ap (λ (j : ℕ). fields (6 - (i + 1)) j kind b (k + m)) (add-one i) ∙ sym (open_fields ∙ ap on e)
 
 next-within : (room part : ℕ) (t : Taken) (f : ℕ → Taken) → Fit part t → ((m : ℕ) → m ≤ part → Fit room (f m)) → Fit room (next t f)
 next-within room part (Whole m) f l h = h m l

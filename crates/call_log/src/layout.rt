@@ -4,7 +4,7 @@ ghost use Rattle.call_log.specs.Log.{rows, six, each, field_of};
 ghost use Rattle.call_log.specs.declared.layout.Field.TheVariants.{Unknown};
 
 // A part of a call. Samples and Floats are a count, at most the number that they carry, and that many values.
-#[derive(Drop)]
+#[derive(Clone, Copy)]
 pub enum Field {
     Nothing,
     Byte,
@@ -17,13 +17,13 @@ pub enum Field {
 }
 
 // The fields of a call, in its order.
-#[derive(Drop)]
+#[derive(Clone, Copy)]
 struct Row(Field, Field, Field, Field, Field, Field);
 
 // The row of each kind. A field that several rows have stands in a local, which makes the check quicker than a constant would.
 fn rows() -> [Row; 15]
-    ensures result_value { each result ≡ rows }
-    ensures value { 15 ≡ length result }
+    ensures value { each result ≡ rows }
+    ensures count { 15 ≡ length result }
 {
     let none = Field::Nothing;
     let unknown = Field::Unknown;

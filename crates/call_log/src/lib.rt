@@ -1,5 +1,8 @@
 // The log of calls (`LMC`) taken apart: its header, how many bytes a call takes, and the values in it. Every function is total: a byte past
 // the end reads as 0. New in this port.
+
+#![tactic(auto)]
+
 ghost use Rattle.std.specs.Prelude.{◌≡◌, ◌+◌, ◌*◌, ◌≤◌, ◌<◌, min, length, get_or, drop, replicate};
 ghost use Rattle.std.specs.Float.Ieee.{of_bits};
 ghost use Rattle.std.specs.Float.{binary32};
@@ -12,7 +15,7 @@ mod layout; // layout.rt: the fields of each kind of call
 use layout::Field;
 
 // What the first five bytes say.
-#[derive(Drop)]
+#[derive(Clone, Copy)]
 pub enum Header {
     Good,
     Short,
@@ -21,7 +24,7 @@ pub enum Header {
 }
 
 // How many bytes a call or a part of one takes; stopped where it is cut, unknown or too long.
-#[derive(Drop)]
+#[derive(Clone, Copy)]
 pub enum Taken {
     Whole(usize),
     Stopped,
@@ -139,7 +142,7 @@ fn zeros() -> [f32; 1024]
 // An output area as it is before a call.
 pub fn area() -> [f32; 1024]
     ensures value { result ≡ tab 1024 before }
-    ensures value_2 { 1024 ≡ length result }
+    ensures places { 1024 ≡ length result }
 {
     let mut out = zeros();
     let mut i: u16 = 0;
@@ -160,7 +163,7 @@ fn zero_places() -> [usize; 1024]
 // A peaks' area as it is before a call.
 pub fn peaks() -> [usize; 1024]
     ensures value { result ≡ tab 1024 before_peak }
-    ensures value_2 { 1024 ≡ length result }
+    ensures places { 1024 ≡ length result }
 {
     let mut out = zero_places();
     let mut i = 0;

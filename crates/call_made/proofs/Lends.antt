@@ -15,12 +15,19 @@ pub record Lends {A : Type 0} (most : ℕ) (fresh : List A) (l : List ℕ) (n : 
   pub asked : n ≡ min (short l) most
   pub long : length (take n room) ≡ min (short l) most
 
+-- what making the room says, and what counting says
+abbrev pub Fresh : {A : Type 0} → ℕ → List A → List A → Type 0
+Fresh most fresh room = record { value : room ≡ fresh; places : most ≡ length room }
+
+abbrev pub Counted : {A : Type 0} → List ℕ → List A → ℕ → Type 0
+Counted read room n = record { value : n ≡ min (short read) (length room); places : Places n room }
+
 -- from what making the room, counting and reading l say
 pub lends : {A : Type 0} {most : ℕ} {fresh room : List A} {l read : List ℕ} {n : ℕ} →
-    (room ≡ fresh) × (most ≡ length room) → read ≡ l → (n ≡ min (short read) (length room)) × Places n room → Lends most fresh l n room
+    Fresh most fresh room → read ≡ l → Counted read room n → Lends most fresh l n room
 lends {most} made e counted =
-    let n-is = counted.0 ∙ (λ j. min (short (e j)) (sym made.1 j)) in
-    record { new = made.0; asked = n-is; long = sym counted.1.1 ∙ n-is }
+    let n-is = counted.value ∙ (λ j. min (short (e j)) (sym made.places j)) in
+    record { new = made.value; asked = n-is; long = sym counted.places.1 ∙ n-is }
 
 -- what is answered of values read into the lent places is answered of as many as the count asks for
 pub read_of : {A R : Type 0} {most n : ℕ} {fresh room : List A} {l : List ℕ} {r : R} (f : List A → R) (g : ℕ → A) → Lends most fresh l n room → r ≡ f (tab (length (take n room)) g) → r ≡ f (tab (min (short l) most) g)
@@ -28,7 +35,7 @@ read_of f g u e = e ∙ ap (λ (k : ℕ). f (tab k g)) u.long
 
 -- a fresh room whose lent places are read into, and the rest of it as it was
 pub read_into : {A : Type 0} {most n : ℕ} {fresh room last : List A} {l read : List ℕ} (f : List ℕ → ℕ → A) →
-    (room ≡ fresh) × (most ≡ length room) → read ≡ l → (n ≡ min (short read) (length room)) × Places n room → last ≡ tab (length (take n room)) (f read) →
+    Fresh most fresh room → read ≡ l → Counted read room n → last ≡ tab (length (take n room)) (f read) →
     last ++ drop n room ≡ tab (min (short l) most) (f l) ++ drop (min (short l) most) fresh
 read_into {n = n} {room = room} f made e counted filled =
     let u = lends made e counted in

@@ -1,4 +1,7 @@
 // The calls of a log (`LMC`), made: the bytes of a whole call and the channels in, the channels and the answer out. New in this port.
+
+#![tactic(auto)]
+
 ghost use Rattle.std.specs.Prelude.{◌≡◌, pos, length, get_or, drop, replicate};
 ghost use Rattle.std.specs.Float.Ieee.{of_bits};
 ghost use Rattle.std.specs.Float.{binary32};
@@ -14,7 +17,7 @@ use near_nyquist::Asked;
 use refusals::ACCEPTED;
 
 // What a call answers: the numbers of its first line, and its output areas, m places of x, n of y and o of z, which are peaks or the number of bands read.
-#[derive(Drop)]
+#[derive(Clone, Copy)]
 pub struct Answer {
     pub number: u8,
     pub index: usize,
@@ -28,20 +31,20 @@ pub struct Answer {
 }
 
 // A channel after a call, and the answer.
-#[derive(Drop)]
+#[derive(Clone, Copy)]
 pub struct Analysed {
     pub channel: analysis::Channel,
     pub answer: Answer,
 }
 
-#[derive(Drop)]
+#[derive(Clone, Copy)]
 pub struct Played {
     pub channel: synthesis::Channel,
     pub answer: Answer,
 }
 
 // The channels, and the answer of the last call.
-#[derive(Drop)]
+#[derive(Clone, Copy)]
 pub struct Bench {
     pub analysis: analysis::Channel,
     pub synthesis: synthesis::Channel,
@@ -51,21 +54,21 @@ pub struct Bench {
 // Room for a frame of samples, and for what a channel keeps. That each has its length is said again, since lending a part needs it.
 fn samples_room() -> [i16; 1024]
     ensures value { result ≡ replicate 1024 (pos 0) }
-    ensures value_2 { 1024 ≡ length result }
+    ensures places { 1024 ≡ length result }
 {
     [0i16; 1024]
 }
 
 fn samples_300() -> [i16; 300]
     ensures value { result ≡ replicate 300 (pos 0) }
-    ensures value_2 { 300 ≡ length result }
+    ensures places { 300 ≡ length result }
 {
     [0i16; 300]
 }
 
 fn floats_300() -> [f32; 300]
     ensures value { result ≡ replicate 300 (of_bits binary32 0) }
-    ensures value_2 { 300 ≡ length result }
+    ensures places { 300 ≡ length result }
 {
     [0.0; 300]
 }

@@ -2,13 +2,13 @@
 use mathlib.Core.Path.{◌≡◌, refl, sym, ap, ◌∙◌}
 use mathlib.Core.Bool.{Bool, cond}
 use mathlib.Core.List.{List, [], ◌∷◌, ◌++◌, append_assoc}
-use Prim.Native.Nat.{ℕ, ◌+◌, ◌-◌, ◌≤◌, ◌<◌}
+use Prim.Native.Nat.{ℕ, ◌+◌, ◌≤◌, ◌<◌}
 use native.Mathlib.Numerals.{add-one}
 use native.Mathlib.Omega.{arith}
 use lib.ListN.{length, get_or, drop, set, drop_of_length-le}
 use lib.Seq.{drop-cons}
 use borrow.Author.Tests.{lt-ltb, le-ltb}
-use Rattle.plain_text.specs.Text.{space, newline}
+use Rattle.plain_text.specs.Text.{newline}
 use Rattle.call_text.specs.Page.{Page, page, put, written}
 use Rattle.call_text.specs.Lines.{each}
 
@@ -85,16 +85,6 @@ module _ {A : Type 0} {f : A → List ℕ} {x : List A} where
       → p ≡ written (page out k) newline
       → p ≡ written (page out₀ k₀) (each f x ++ newline)
   ended {out₀} {k₀} g h e = two (page out₀ k₀) (each f x) newline (done g h) e
-
--- the invariant and the measure of such a loop, over its locals in the code's order
-abbrev pub Texts : {A : Type 0} → (A → List ℕ) → List ℕ → ℕ → List A → ℕ → ℕ → List ℕ → ℕ → ℕ → Type 0
-Texts f out₀ at x k₀ i₀ out k i = Going f x out₀ k₀ out k i
-
-abbrev pub Spaced : {A : Type 0} → (A → List ℕ) → List ℕ → ℕ → List A → ℕ → ℕ → List ℕ → ℕ → ℕ → Type 0
-Spaced f = Texts (λ y. space ++ f y)
-
-abbrev pub ToGo : {A : Type 0} → List ℕ → ℕ → List A → ℕ → ℕ → List ℕ → ℕ → ℕ → ℕ
-ToGo out₀ at x k₀ i₀ out k i = length x - i
 
 -- bytes are their own texts
 abbrev pub byte : ℕ → List ℕ

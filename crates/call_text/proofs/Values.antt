@@ -88,16 +88,16 @@ module _ (z : ℤ) (s : Small z) where
   pub cast : T (non_neg (to_z w16 (of_z w16 z))) × Fits w16 (nat_abs (to_z w16 (of_z w16 z)))
   cast = let l = s.low in subst (λ (y : ℤ). T (non_neg y) × Fits w16 (nat_abs y)) (sym kept) (tt, record { fits = omega arith })
 
-  pub more-fits : Fits w16 (nat_abs (to_z w16 (of_z w16 z)) + 1)
-  more-fits = let l = s.low in subst (λ (y : ℤ). Fits w16 (nat_abs y + 1)) (sym kept) (record { fits = omega arith })
+  pub more_fits : Fits w16 (nat_abs (to_z w16 (of_z w16 z)) + 1)
+  more_fits = let l = s.low in subst (λ (y : ℤ). Fits w16 (nat_abs y + 1)) (sym kept) (record { fits = omega arith })
 
 -- a sample that is read is the one that was passed
 module _ (x : ℤ) (h : SFits w16 x) where
   pub read_fits : SFits w16 (to_z w16 (of_z w16 x))
   read_fits = subst (SFits w16) (sym (to_z-of_z w16 x h)) h
 
-  pub read-test : {b : Bool} → lt_z (to_z w16 (of_z w16 x)) (pos 0) ≡ b → lt_z x (pos 0) ≡ b
-  read-test e = ap (λ (z : ℤ). lt_z z (pos 0)) (sym (to_z-of_z w16 x h)) ∙ e
+  pub read_test : {b : Bool} → lt_z (to_z w16 (of_z w16 x)) (pos 0) ≡ b → lt_z x (pos 0) ≡ b
+  read_test e = ap (λ (z : ℤ). lt_z z (pos 0)) (sym (to_z-of_z w16 x h)) ∙ e
 
 pub size_complement : (z : ℤ) (h : SFits w16 z) (e : lt_z z (pos 0) ≡ true) → (complement z h e).size + 1 ≡ nat_abs z
 unfolding complement

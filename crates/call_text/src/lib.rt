@@ -1,5 +1,8 @@
 // The text that a call of the log is answered with, written into a lent buffer: each function writes from place `at` on and returns the place after
 // what it wrote. A byte that finds no room is dropped, so that nothing is asked of a caller. New in this port.
+
+#![tactic(auto)]
+
 ghost use Rattle.std.specs.Prelude.{◌≡◌, [], ◌∷◌, ◌++◌, min, nat_abs, take};
 ghost use Rattle.io.specs.Digits.{last_digits};
 ghost use Rattle.plain_text.specs.Text.{space, newline, decimal};
@@ -7,7 +10,7 @@ ghost use Rattle.call_text.specs.Page.{page, written};
 ghost use Rattle.call_text.specs.Lines.{lines, value, sign, sample, spaced, worded, numbers, extra, answer, area_line, places_line, measured_lines, energy_line, area_lines, call_text, analysis_line, synthesis_line, show_text, last_line};
 
 // What a call's first line says last: nothing, the flag of a measurement or the sooner one, the loudest band.
-#[derive(Drop)]
+#[derive(Clone, Copy)]
 pub enum Extra {
     Nothing,
     Flag(bool),

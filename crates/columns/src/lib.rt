@@ -1,24 +1,27 @@
 // What a butterfly makes of one column, whose places but the first are twiddled already: complex numbers in and out by value.
 // Ported from kf_bfly2 to kf_bfly5 of src/common/kissfft.rs of lc3-codec 0.2.0, and changed: the arithmetic of a column in functions of its own.
+
+#![tactic(auto)]
+
 ghost use Rattle.std.specs.Prelude.{◌≡◌, [], ◌∷◌};
 ghost use Rattle.columns.specs.Column.{plus_quarter, minus_quarter, mix, near, far, two, three, four, five, col, of2, of3, of4, of5};
 
 use complex::Complex;
 
-#[derive(Drop)]
+#[derive(Clone, Copy)]
 pub struct Out2 {
     pub a: Complex,
     pub b: Complex,
 }
 
-#[derive(Drop)]
+#[derive(Clone, Copy)]
 pub struct Out3 {
     pub a: Complex,
     pub b: Complex,
     pub c: Complex,
 }
 
-#[derive(Drop)]
+#[derive(Clone, Copy)]
 pub struct Out4 {
     pub a: Complex,
     pub b: Complex,
@@ -26,7 +29,7 @@ pub struct Out4 {
     pub d: Complex,
 }
 
-#[derive(Drop)]
+#[derive(Clone, Copy)]
 pub struct Out5 {
     pub a: Complex,
     pub b: Complex,

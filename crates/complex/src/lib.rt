@@ -1,10 +1,13 @@
 // A complex number of two f32 parts, by value, and places of a pair of slices read and written as one number.
 // Ported from src/common/complex.rs of lc3-codec 0.2.0, and changed: methods by name in place of operators, each handing back a new
 // number; `get` and `put` are new.
+
+#![tactic(auto)]
+
 ghost use Rattle.std.specs.Prelude.{◌≡◌, ◌<◌, length};
 ghost use Rattle.complex.specs.Complex.{parts, plus, minus, times, scale, at, upd};
 
-#[derive(Drop)]
+#[derive(Clone, Copy)]
 pub struct Complex {
     pub r: f32,
     pub i: f32,

@@ -89,19 +89,19 @@ sound c v =
     record {
       even = eqb→eq (nf c) (2 * half c) (and_l (eqb (nf c) (2 * half c)) _ t1);
       half_pos = ltb→lt 0 (half c) (and_l (ltb 0 (half c)) _ t2);
-      z-lt = ltb→lt (2 * z c) (nf c) (and_l (ltb (2 * z c) (nf c)) _ t3);
-      nf-le = leb→le (nf c) 480 (and_l (leb (nf c) 480) _ t4);
-      keep-le = leb→le (nf c - z c) 300 (and_l (leb (nf c - z c) 300) _ t5);
-      ne-le = leb→le (ne c) (nf c) (and_l (leb (ne c) (nf c)) _ t6);
-      nb-pos = ltb→lt 0 (nb c) (and_l (ltb 0 (nb c)) _ t7);
-      nb-le = leb→le (nb c) 64 (and_l (leb (nb c) 64) _ t8);
-      upper-le = leb→le (upper c) (nb c) (and_l (leb (upper c) (nb c)) _ t9);
+      z_lt = ltb→lt (2 * z c) (nf c) (and_l (ltb (2 * z c) (nf c)) _ t3);
+      nf_le = leb→le (nf c) 480 (and_l (leb (nf c) 480) _ t4);
+      keep_le = leb→le (nf c - z c) 300 (and_l (leb (nf c - z c) 300) _ t5);
+      ne_le = leb→le (ne c) (nf c) (and_l (leb (ne c) (nf c)) _ t6);
+      nb_pos = ltb→lt 0 (nb c) (and_l (ltb 0 (nb c)) _ t7);
+      nb_le = leb→le (nb c) 64 (and_l (leb (nb c) 64) _ t8);
+      upper_le = leb→le (upper c) (nb c) (and_l (leb (upper c) (nb c)) _ t9);
       lasts = eqb→eq (nf c * 1000000) (rate c * duration c) (and_l (eqb (nf c * 1000000) (rate c * duration c)) _ t10);
-      fft-size = and_l (among fft_sizes (half c)) _ t11;
-      dct-length = and_l (among dct_lengths (nf c)) _ t12;
-      edges-65 = eqb→eq (length (edges c)) 65 (and_l (eqb (length (edges c)) 65) _ t13);
-      edges-from = eqb→eq (get_or (edges c) 0 0) 0 (and_l (eqb (get_or (edges c) 0 0) 0) _ t14);
-      edges-to = eqb→eq (get_or (edges c) (nb c) 0) (ne c) (and_l (eqb (get_or (edges c) (nb c) 0) (ne c)) _ t15);
+      fft_size = and_l (among fft_sizes (half c)) _ t11;
+      dct_length = and_l (among dct_lengths (nf c)) _ t12;
+      edges_65 = eqb→eq (length (edges c)) 65 (and_l (eqb (length (edges c)) 65) _ t13);
+      edges_from = eqb→eq (get_or (edges c) 0 0) 0 (and_l (eqb (get_or (edges c) 0 0) 0) _ t14);
+      edges_to = eqb→eq (get_or (edges c) (nb c) 0) (ne c) (and_l (eqb (get_or (edges c) (nb c) 0) (ne c)) _ t15);
       rising = rises (nb c) (edges c) (ne c) (and_r (eqb (get_or (edges c) (nb c) 0) (ne c)) _ t15);
     }
 

@@ -9,31 +9,31 @@ pub record Sound (c : ℕ) : Type 0 where
   -- the FFT has a point at least
   pub half_pos : 0 < half c
   -- the window's zeros are less than half a frame
-  pub z-lt : 2 * z c < nf c
+  pub z_lt : 2 * z c < nf c
   -- no frame is longer than 480 samples
-  pub nf-le : nf c ≤ 480
+  pub nf_le : nf c ≤ 480
   -- what a channel keeps fits its 300 places
-  pub keep-le : nf c - z c ≤ 300
+  pub keep_le : nf c - z c ≤ 300
   -- no more lines are coded than a frame has
-  pub ne-le : ne c ≤ nf c
+  pub ne_le : ne c ≤ nf c
   -- there is a band
-  pub nb-pos : 0 < nb c
+  pub nb_pos : 0 < nb c
   -- there are at most 64
-  pub nb-le : nb c ≤ 64
+  pub nb_le : nb c ≤ 64
   -- no more bands are upper than there are
-  pub upper-le : upper c ≤ nb c
+  pub upper_le : upper c ≤ nb c
   -- at its rate a frame's samples last its duration
   pub lasts : nf c * 1000000 ≡ rate c * duration c
   -- the FFT accepts its size
-  pub fft-size : T (among fft_sizes (half c))
+  pub fft_size : T (among fft_sizes (half c))
   -- the DCT accepts its length
-  pub dct-length : T (among dct_lengths (nf c))
+  pub dct_length : T (among dct_lengths (nf c))
   -- the edges stand in 65 places
-  pub edges-65 : length (edges c) ≡ 65
+  pub edges_65 : length (edges c) ≡ 65
   -- the first band begins at line 0
-  pub edges-from : get_or (edges c) 0 0 ≡ 0
+  pub edges_from : get_or (edges c) 0 0 ≡ 0
   -- the last band ends where the coded lines end
-  pub edges-to : get_or (edges c) (nb c) 0 ≡ ne c
+  pub edges_to : get_or (edges c) (nb c) 0 ≡ ne c
   -- each band has a line at least, and none goes past the coded lines
   pub rising : Rising (nb c) (edges c) (ne c)
 

@@ -1,6 +1,9 @@
 // The configurations: a row of numbers and the edges of the bands for each.
 // Ported from src/common/config.rs and src/tables/band_index_tables.rs of lc3-codec 0.2.0, and changed: a configuration is a number, 44.1 kHz
 // stays behind, frames of 5 and 2.5 ms are LC3plus's as liblc3 has them, the row has the number of upper bands too, and every function is total.
+
+#![tactic(auto)]
+
 ghost use Rattle.std.specs.Prelude.{◌≡◌};
 ghost use Rattle.config.specs.Config.{valid, nf, z, ne, nb, rate, duration, upper, half, among, fft_sizes, dct_lengths};
 
@@ -10,7 +13,7 @@ pub use tables::edges;
 
 // A configuration's row, under the Rust's names where it has them: duration is in microseconds, upper is the number of bands that the flag
 // counts as upper.
-#[derive(Drop)]
+#[derive(Clone, Copy)]
 pub struct Lc3Config {
     pub fs: usize,
     pub ne: usize,

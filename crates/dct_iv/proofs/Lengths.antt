@@ -60,13 +60,13 @@ module _ (n : ℕ) (buf : List Float) where
   abbrev says : ℕ → ℕ → Type 0
   says v i = ◌≡◌ {A = Verdict} (record { number = v; index = i }) (verdict n buf)
 
-  pub says-2 : among dct_lengths n ≡ false → says 2 0
+  pub says_2 : among dct_lengths n ≡ false → says 2 0
   unfolding verdict number
-  says-2 k = rw k
+  says_2 k = rw k
 
-  pub says-3 : among dct_lengths n ≡ true → (length buf ≡ n → ⊥) → says 3 0
+  pub says_3 : among dct_lengths n ≡ true → (length buf ≡ n → ⊥) → says 3 0
   unfolding verdict number
-  says-3 k e = rw (k, ne_eqb (length buf) n e)
+  says_3 k e = rw (k, ne_eqb (length buf) n e)
 
   pub says-rest : among dct_lengths n ≡ true → length buf ≡ n → {w : Verdict} → w ≡ on_values buf → w ≡ verdict n buf
   unfolding verdict number

@@ -1,5 +1,8 @@
 // The DCT-IV by an FFT of half its length: its refusals, the length's own function, and the entry.
 // Ported from src/common/dct_iv.rs of lc3-codec 0.2.0, and changed: refusals stand in place of panics. The DCT itself is in crates below this one.
+
+#![tactic(auto)]
+
 ghost use Rattle.std.specs.Prelude.{◌≡◌, ◌<◌, T, length};
 ghost use Rattle.config.specs.Config.{among, dct_lengths};
 ghost use Rattle.dct_steps.specs.Dct.{dct_iv};

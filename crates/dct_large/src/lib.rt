@@ -1,6 +1,9 @@
 // The DCT-IV of each length of more than 80 values with its tables and work areas: a function for each length, so that those of one are on the stack at a time, and
 // the compiler knows how often each loop turns and that no two areas overlap. Written by tools/tables.
 // Ported from src/common/dct_iv.rs of lc3-codec 0.2.0, and changed: the tables are constant, and the work areas the function's own.
+
+#![tactic(auto)]
+
 ghost use Rattle.std.specs.Prelude.{◌≡◌, T, length};
 ghost use Rattle.config.specs.Config.{among, fft_sizes};
 ghost use Rattle.dct_steps.specs.Dct.{dct_iv};

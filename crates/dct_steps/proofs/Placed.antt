@@ -12,13 +12,13 @@ use Rattle.complex.specs.declared.Complex.{Complex}
 use Rattle.dct_steps.specs.Dct.{double, placed, dct_iv}
 
 module _ (c n : ℕ) (z : ℕ → Complex) (even : n ≡ 2 * c) (i : ℕ) (l : i < c) where
-  first-of-two : placed z n (2 * i) ≡ mul binary32 (z i).r double
-  first-of-two =
+  first_of_two : placed z n (2 * i) ≡ mul binary32 (z i).r double
+  first_of_two =
       let h : 2 * i / 2 ≡ i = omega arith in
       rw (eq-eqb (2 * i % 2) 0 (omega arith), h)
 
-  second-of-two : placed z n (2 * i + 1) ≡ mul binary32 (neg (z (c - 1 - i)).i) double
-  second-of-two =
+  second_of_two : placed z n (2 * i + 1) ≡ mul binary32 (neg (z (c - 1 - i)).i) double
+  second_of_two =
       let h : (n - 1 - (2 * i + 1)) / 2 ≡ c - 1 - i = omega arith in
       rw (ne_eqb ((2 * i + 1) % 2) 0 (λ e. omega arith), h)
 
@@ -28,8 +28,8 @@ module _ (c n : ℕ) (z : ℕ → Complex) (even : n ≡ 2 * c) (i : ℕ) (l : i
       → out ≡ set (set buf (2 * i) a) (2 * i + 1) b → Filled (placed z n) before (2 * (i + 1)) out
   two-more {before} {buf} {out} {a} {b} room h ea eb e =
       let k : 2 * i + 1 + 1 ≡ 2 * (i + 1) = omega arith in
-      let one = filled_more a nan h (omega arith) (ea ∙ sym first-of-two) in
-      let two = filled_more b nan one (omega arith) (eb ∙ sym second-of-two) in
+      let one = filled_more a nan h (omega arith) (ea ∙ sym first_of_two) in
+      let two = filled_more b nan one (omega arith) (eb ∙ sym second_of_two) in
       subst (λ (x : ℕ × List Float). Filled (placed z n) before x.0 x.1) (λ j. (k j, sym e j)) two
 
 -- the places look at the first c of n = 2 c numbers

@@ -1,5 +1,8 @@
 // The steps of the DCT-IV around its FFT: what goes in, and what comes out.
 // Ported from src/common/dct_iv.rs of lc3-codec 0.2.0, and changed: the points are slices of their parts, and the twiddles are lent.
+
+#![tactic(auto)]
+
 ghost use Rattle.std.specs.Prelude.{◌≡◌, ◌+◌, ◌*◌, ◌<◌, length, set};
 ghost use Rattle.complex.specs.Complex.{at};
 ghost use Rattle.kf_work.specs.Work.{BothParts};

@@ -24,7 +24,7 @@ use Rattle.quads.proofs.Rows.{col_of, part_of}
 use Rattle.kf_work.specs.Work.{plan, span, planned, spectrum}
 use Rattle.kf_work.specs.Sized.{Sized}
 use Rattle.kf_work.specs.Packed.{after, packed_spectrum, Packed}
-use Rattle.kf_work.proofs.Plan.{Split, split, span_positive, plan-cons, whole, inner-positive}
+use Rattle.kf_work.proofs.Plan.{Split, split, span_positive, plan-cons, whole, inner_positive}
 use Rattle.kf_work.proofs.Sizes as plans
 use Rattle.twiddles.specs.Tables.{sizes, fft_re_bits}
 use Rattle.twiddles.specs.Twiddles.{start, fft_re, fft_im, fft_im_of, twiddle}
@@ -35,7 +35,7 @@ use Rattle.fft_tables.specs.FftTables.{order, read, packed_re, packed_im, packed
 span-two : (p : ℕ) (ps : List ℕ) → T (planned (p ∷ ps)) → 2 ≤ span (p ∷ ps)
 span-two p ps h =
     let sp = plan-cons (p ∷ ps) h (omega arith) in
-    omega (arith, mul-le-mul_right (get_or (p ∷ ps) 1 0) sp.at_least, inner-positive _ _ _ _ sp, whole _ _ _ _ sp)
+    omega (arith, mul-le-mul_right (get_or (p ∷ ps) 1 0) sp.at_least, inner_positive _ _ _ _ sp, whole _ _ _ _ sp)
 
 -- the last place of a table is the last of what is left after a stage
 last_place : (p m : ℕ) → 2 ≤ p → 2 ≤ m → m * (p - 1) + (m - 2) ≡ p * m - 2
@@ -51,7 +51,7 @@ module _ (t : ℕ → Complex) (n : ℕ) (still : parts one32 (t 0).i ≡ t 0) w
   packed [] s u h e o third = tt
   packed (p ∷ []) s u h e o third = tt
   packed (p ∷ m ∷ []) s u h e o third = (ap (λ (z : Complex). parts one32 z.i) (o 0 (omega arith)) ∙ still, o 1 (omega arith), o 2 (omega arith))
-  packed (p ∷ m ∷ r ∷ ps) s u h e o third = (stands, a-third, packed (r ∷ ps) (s * p) (after u p m) sp.rest-planned left-whole left (λ k e3. ap u left-last ∙ third k e3))
+  packed (p ∷ m ∷ r ∷ ps) s u h e o third = (stands, a_third, packed (r ∷ ps) (s * p) (after u p m) sp.rest-planned left_whole left (λ k e3. ap u left_last ∙ third k e3))
     where
       sp : Split (p ∷ m ∷ r ∷ ps) p m (r ∷ ps)
       sp = split p m (r ∷ ps) h
@@ -65,32 +65,32 @@ module _ (t : ℕ → Complex) (n : ℕ) (still : parts one32 (t 0).i ≡ t 0) w
       stage-length : length stage ≡ m * (p - 1)
       stage-length = length-tab (m * (p - 1)) reads
 
-      inner-stages : List ℕ
-      inner-stages = order (r ∷ ps) (s * p)
+      inner_stages : List ℕ
+      inner_stages = order (r ∷ ps) (s * p)
 
       stands : (j q : ℕ) → j < m → suc q < p → beside u m j q ≡ t (suc q * (j * s))
       stands j q l lq =
           let part : suc q ≤ p - 1 = omega arith in
           let inside : j + m * q < m * (p - 1) = omega (arith, mul-le-mul_left m part, mul-suc m q) in
-          o (j + m * q) (omega (arith, length-append stage inner-stages, stage-length))
-          ∙ ap t (get_or-append stage inner-stages 0 (j + m * q) (omega (arith, stage-length)) ∙ get_or-tab (m * (p - 1)) reads 0 (j + m * q) inside)
+          o (j + m * q) (omega (arith, length-append stage inner_stages, stage-length))
+          ∙ ap t (get_or-append stage inner_stages 0 (j + m * q) (omega (arith, stage-length)) ∙ get_or-tab (m * (p - 1)) reads 0 (j + m * q) inside)
           ∙ rw (col_of m j q l, part_of m j q l)
 
-      a-third : p ≡ 3 → u (3 * m - 2) ≡ t (s * m)
-      a-third three =
+      a_third : p ≡ 3 → u (3 * m - 2) ≡ t (s * m)
+      a_third three =
           ap (λ (x : ℕ). u (x * m - 2)) (sym three)
           ∙ third (s * m) (ap (λ (x : ℕ). x * (s * m)) (sym three) ∙ sym (mul_assoc p s m) ∙ ap (λ (x : ℕ). x * m) (mul_comm p s) ∙ mul_assoc s p m ∙ e)
 
-      left-whole : s * p * span (r ∷ ps) ≡ n
-      left-whole = ap (λ (x : ℕ). s * p * x) (sym sp.inner) ∙ mul_assoc s p m ∙ e
+      left_whole : s * p * span (r ∷ ps) ≡ n
+      left_whole = ap (λ (x : ℕ). s * p * x) (sym sp.inner) ∙ mul_assoc s p m ∙ e
 
-      left-last : m * (p - 1) + (span (r ∷ ps) - 2) ≡ p * m - 2
-      left-last = ap (λ (x : ℕ). m * (p - 1) + (x - 2)) (sym sp.inner) ∙ last_place p m sp.at_least (omega (arith, span-two r ps sp.rest-planned, sp.inner))
+      left_last : m * (p - 1) + (span (r ∷ ps) - 2) ≡ p * m - 2
+      left_last = ap (λ (x : ℕ). m * (p - 1) + (x - 2)) (sym sp.inner) ∙ last_place p m sp.at_least (omega (arith, span-two r ps sp.rest-planned, sp.inner))
 
-      left : (k : ℕ) → k < length inner-stages → after u p m k ≡ t (get_or inner-stages k 0)
+      left : (k : ℕ) → k < length inner_stages → after u p m k ≡ t (get_or inner_stages k 0)
       left k l =
-          o (m * (p - 1) + k) (omega (arith, length-append stage inner-stages, stage-length))
-          ∙ ap t (ap (λ (x : ℕ). get_or (stage ++ inner-stages) (x + k) 0) (sym stage-length) ∙ get_or-append-add stage inner-stages k 0)
+          o (m * (p - 1) + k) (omega (arith, length-append stage inner_stages, stage-length))
+          ∙ ap t (ap (λ (x : ℕ). get_or (stage ++ inner_stages) (x + k) 0) (sym stage-length) ∙ get_or-append-add stage inner_stages k 0)
 
 -- a table of a size has n - 1 places, and the real part of no turn is 1.0
 abbrev fits : ℕ → Bool
@@ -101,22 +101,22 @@ unfolding sizes start fft_re_bits plan order tab
 test = tt
 
 module _ (n : ℕ) (s : T (among fft_sizes n)) where
-  of-tables : T (among sizes n)
-  of-tables = rw (same_sizes n) at s
+  of_tables : T (among sizes n)
+  of_tables = rw (same_sizes n) at s
 
   ordered : suc (length (order (plan n) 1)) ≡ n - 1
-  ordered = eqb→eq _ _ (and_l (eqb (suc (length (order (plan n) 1))) (n - 1)) _ (at-among fits sizes test n of-tables))
+  ordered = eqb→eq _ _ (and_l (eqb (suc (length (order (plan n) 1))) (n - 1)) _ (at-among fits sizes test n of_tables))
 
   read_length : length (read n) ≡ n - 1
   unfolding read
   read_length = length-append (order (plan n) 1) _ ∙ omega (arith, ordered)
 
-  first-is-one : get_or (fft_re n) 0 nan ≡ one32
+  first_is_one : get_or (fft_re n) 0 nan ≡ one32
   unfolding fft_re
-  first-is-one =
+  first_is_one =
       let bits = take n (drop (start n) fft_re_bits) in
-      let first : get_or bits 0 0 ≡ 0x3f800000 = eqb→eq _ _ (and_r (eqb (suc (length (order (plan n) 1))) (n - 1)) _ (at-among fits sizes test n of-tables)) in
-      get_or-map (of_bits binary32) bits 0 0 nan (omega (arith, length-map (of_bits binary32) bits, (sized n of-tables).fft-re, ordered)) ∙ ap (of_bits binary32) first
+      let first : get_or bits 0 0 ≡ 0x3f800000 = eqb→eq _ _ (and_r (eqb (suc (length (order (plan n) 1))) (n - 1)) _ (at-among fits sizes test n of_tables)) in
+      get_or-map (of_bits binary32) bits 0 0 nan (omega (arith, length-map (of_bits binary32) bits, (sized n of_tables).fft-re, ordered)) ∙ ap (of_bits binary32) first
 
   module _ (inverse : Bool) where
     -- place k is the twiddle that is read there
@@ -134,11 +134,11 @@ module _ (n : ℕ) (s : T (among fft_sizes n)) where
     pub packs : Packed (twiddle n inverse) (plan n) 1 (at (packed_re n) (packed_im_of inverse n))
     unfolding read twiddle
     packs =
-        packed (twiddle n inverse) n (ap (λ (x : Float). parts x (twiddle n inverse 0).i) (sym first-is-one)) (plan n) 1 _
-        plan-is.plan-radixes (one-mul (span (plan n)) ∙ plan-is.whole) in_order third
+        packed (twiddle n inverse) n (ap (λ (x : Float). parts x (twiddle n inverse 0).i) (sym first_is_one)) (plan n) 1 _
+        plan_is.plan_radixes (one-mul (span (plan n)) ∙ plan_is.whole) in_order third
       where
-        plan-is : Sized n
-        plan-is = plans.sized n s
+        plan_is : Sized n
+        plan_is = plans.sized n s
 
         in_order : (k : ℕ) → k < length (order (plan n) 1) → at (packed_re n) (packed_im_of inverse n) k ≡ twiddle n inverse (get_or (order (plan n) 1) k 0)
         in_order k l =
@@ -146,19 +146,19 @@ module _ (n : ℕ) (s : T (among fft_sizes n)) where
 
         third : (k : ℕ) → 3 * k ≡ n → at (packed_re n) (packed_im_of inverse n) (span (plan n) - 2) ≡ twiddle n inverse k
         third k e =
-            let last : length (order (plan n) 1) ≡ span (plan n) - 2 = omega (arith, ordered, plan-is.whole) in
+            let last : length (order (plan n) 1) ≡ span (plan n) - 2 = omega (arith, ordered, plan_is.whole) in
             places (span (plan n) - 2) (omega (arith, read_length, ordered, last))
             ∙ ap (twiddle n inverse) (get_or_at (order (plan n) 1) _ [] 0 (span (plan n) - 2) last ∙ ap (λ (x : ℕ). x / 3) (sym e) ∙ mul-div_cancel_left k (omega arith))
 
     -- so the transform that reads it is the transform with the twiddles of n
-    pub packed-spectrum : (tr ti : List Float) (x : ℕ → Complex) → tr ≡ packed_re n → ti ≡ packed_im_of inverse n
+    pub packed_spectrum_lem : (tr ti : List Float) (x : ℕ → Complex) → tr ≡ packed_re n → ti ≡ packed_im_of inverse n
         → packed_spectrum (at tr ti) inverse n x ≡ spectrum (twiddle n inverse) inverse n x
-    packed-spectrum tr ti x er ei =
+    packed_spectrum_lem tr ti x er ei =
         (λ j. packed_spectrum (at (er j) (ei j)) inverse n x) ∙ plans.unpacked n s (twiddle n inverse) (at (packed_re n) (packed_im_of inverse n)) x inverse packs
 
   -- a size is 1 at least
   pub some_size : 0 < n
-  some_size = let plan-is = plans.sized n s in omega (arith, span_positive (plan n) plan-is.plan-radixes, plan-is.whole)
+  some_size = let plan_is = plans.sized n s in omega (arith, span_positive (plan n) plan_is.plan_radixes, plan_is.whole)
 
   re-length : length (packed_re n) ≡ n - 1
   unfolding packed_re
@@ -168,19 +168,19 @@ module _ (n : ℕ) (s : T (among fft_sizes n)) where
   unfolding packed_im
   im-length = length-map (λ k. get_or (fft_im n) k nan) (read n) ∙ read_length
 
-  im-of-length : (inverse : Bool) → length (packed_im_of inverse n) ≡ n - 1
+  im_of_length : (inverse : Bool) → length (packed_im_of inverse n) ≡ n - 1
   unfolding packed_im_of
-  im-of-length false = im-length
-  im-of-length true = length-map neg (packed_im n) ∙ im-length
+  im_of_length false = im-length
+  im_of_length true = length-map neg (packed_im n) ∙ im-length
 
-  pub packed-halves : (inverse : Bool) (t : List Float) → t ≡ packed_table_of inverse n → Halved (n - 1) (packed_re n) (packed_im_of inverse n) t
+  pub packed_halves : (inverse : Bool) (t : List Float) → t ≡ packed_table_of inverse n → Halved (n - 1) (packed_re n) (packed_im_of inverse n) t
   unfolding packed_table_of
-  packed-halves inverse t e = halved (n - 1) (packed_re n) (packed_im_of inverse n) t e re-length (im-of-length inverse)
+  packed_halves inverse t e = halved (n - 1) (packed_re n) (packed_im_of inverse n) t e re-length (im_of_length inverse)
 
   -- the forward table with its imaginary parts negated is the inverse's
-  pub packed-inverted : (t : List Float) → t ≡ packed_table n → take (n - 1) t ++ map neg (drop (n - 1) t) ≡ packed_table_of true n
+  pub packed_inverted : (t : List Float) → t ≡ packed_table n → take (n - 1) t ++ map neg (drop (n - 1) t) ≡ packed_table_of true n
   unfolding packed_table packed_table_of packed_im_of
-  packed-inverted t e =
+  packed_inverted t e =
       ap₂ (λ (a b : List Float). a ++ map neg b)
       (ap₂ take (sym re-length) e ∙ take-append_seam (packed_re n) (packed_im n))
       (ap₂ drop (sym re-length) e ∙ drop-append_seam (packed_re n) (packed_im n))

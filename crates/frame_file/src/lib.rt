@@ -1,9 +1,12 @@
 // The frame file `LMF`: what a header and a record are, and a record's samples. New in this port.
+
+#![tactic(auto)]
+
 ghost use Rattle.std.specs.Prelude.{◌≡◌, ◌+◌, ◌*◌, ◌≤◌, length};
 ghost use Rattle.frame_file.specs.File.{signed, samples, lmf, marked, header_of, header_number, record_of, record_number};
 
 // What a header says: good with its version and configuration, or why it is refused.
-#[derive(Drop)]
+#[derive(Clone, Copy)]
 pub enum Header {
     Good(u16, u8),
     Short,
@@ -14,7 +17,7 @@ pub enum Header {
 
 // What stands at a record's place: a frame, with the bytes that it uses, the file's end, a cut frame; astray where there is no such
 // configuration.
-#[derive(Drop)]
+#[derive(Clone, Copy)]
 pub enum Record {
     Frame(usize),
     End,

@@ -13,4 +13,4 @@ unfolding lengths gain_bits gain rooted near units finite of_bits of_fields odd 
 test = tt
 
 pub rules : Rules
-rules = record { gain-rooted = at-among (λ nf. rooted nf (gain nf)) lengths test }
+rules = record { gain_rooted = at-among (λ nf. rooted nf (gain nf)) lengths test }

@@ -27,4 +27,4 @@ rooted nf g = finite g && near (units g *ℤ units g *ℤ pos (2 * nf)) (pos (2 
 -- What is promised of every gain.
 pub record Rules : Type 0 where
   -- the square of a length's gain, times 2 nf, is within 2^-22 of 1
-  pub gain-rooted : (nf : ℕ) → T (among lengths nf) → T (rooted nf (gain nf))
+  pub gain_rooted : (nf : ℕ) → T (among lengths nf) → T (rooted nf (gain nf))

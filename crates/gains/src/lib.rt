@@ -1,5 +1,8 @@
 // The gain of each length. Written by tools/tables from data/twiddles.txt.
 // New: the two modified_dct.rs of lc3-codec 0.2.0 compute these values, and a run of them gave this table.
+
+#![tactic(auto)]
+
 ghost use Rattle.std.specs.Prelude.{◌≡◌};
 ghost use Rattle.gains.specs.Gains.{gain};
 

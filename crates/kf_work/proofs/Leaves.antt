@@ -23,7 +23,7 @@ use Rattle.kf_work.specs.Work.{within, span}
 use Rattle.kf_work.specs.Packed.{after, packed_column, packed_work, innermost}
 use Rattle.kf_work.proofs.Plan.{Split, whole}
 use Rattle.kf_work.proofs.Stages.{blocks, staged}
-use Rattle.kf_work.proofs.Parts.{call-done}
+use Rattle.kf_work.proofs.Parts.{call_done}
 use Rattle.kf_work.proofs.Spread.{within_none, within_more, stride_in}
 
 sees_five : (u : ℕ → Complex) → Sees 5 (beside5 u)
@@ -50,7 +50,7 @@ pub leaf_more : (u x : ℕ → Complex) (s t o q : ℕ) (g₀ : ℕ → Complex)
     → at ys zs ≡ writes (at (mid_of (q * 5) (length re - q * 5) re) (mid_of (q * 5) (length im - q * 5) im)) 0 (beside5 u (col (c.a ∷ c.b ∷ c.c ∷ c.d ∷ c.e ∷ []))) 5
     → at (put_mid (q * 5) (length re - q * 5) re ys) (put_mid (q * 5) (length im - q * 5) im zs) ≡ within ((q + 1) * 5) (blocks (innermost u x s) 5 t o) g₀
 leaf_more u x s t o q g₀ re im ys zs c hr hi before read stored =
-    call-done (innermost u x s) 5 t o q (omega arith) g₀ re im ys zs hr hi before (leaf_done u x s (o + q * t) _ _ c read stored)
+    call_done (innermost u x s) 5 t o q (omega arith) g₀ re im ys zs hr hi before (leaf_done u x s (o + q * t) _ _ c read stored)
 
 -- it is the transform by the plan that it is
 leaf_is : (u x : ℕ → Complex) (inverse : Bool) (s o k : ℕ) → k < 5 → innermost u x s o k ≡ packed_work u inverse x (5 ∷ 1 ∷ []) s o k

@@ -11,31 +11,31 @@ use lib.Ieee.{Float, nan}
 use borrow.Rule.Slice.PartMut.{mid_of, put_mid}
 use Rattle.complex.specs.declared.Complex.{Complex}
 use Rattle.complex.specs.Complex.{at}
-use Rattle.laws.proofs.Parts.{mid-tail, put-tail}
+use Rattle.laws.proofs.Parts.{mid_tail, put_tail}
 use Rattle.kf_work.specs.Work.{within}
-use Rattle.kf_work.proofs.Spread.{within-lt, within-ge, within-part}
+use Rattle.kf_work.proofs.Spread.{within-lt, within_ge, within-part}
 use Rattle.kf_work.proofs.Stages.{blocks}
 
 module _ {X : Type 0} (d : X) (a : ℕ) (xs : List X) (h : a ≤ length xs) where
   pub mid_at : (j : ℕ) → get_or (mid_of a (length xs - a) xs) j d ≡ get_or xs (a + j) d
-  mid_at j = ap (λ (l : List X). get_or l j d) (mid-tail a xs) ∙ get_or-drop a xs j d
+  mid_at j = ap (λ (l : List X). get_or l j d) (mid_tail a xs) ∙ get_or-drop a xs j d
 
   pub put_low : (ys : List X) (i : ℕ) → i < a → get_or (put_mid a (length xs - a) xs ys) i d ≡ get_or xs i d
   put_low ys i l =
-      ap (λ (r : List X). get_or r i d) (put-tail a xs ys)
+      ap (λ (r : List X). get_or r i d) (put_tail a xs ys)
       ∙ get_or-append (take a xs) ys d i (omega (arith, length-take-le a xs h))
       ∙ get_or-take a xs i d l
 
   pub put-high : (ys : List X) (j : ℕ) → get_or (put_mid a (length xs - a) xs ys) (a + j) d ≡ get_or ys j d
   put-high ys j =
-      ap₂ (λ (r : List X) (n : ℕ). get_or r (n + j) d) (put-tail a xs ys) (sym (length-take-le a xs h))
+      ap₂ (λ (r : List X) (n : ℕ). get_or r (n + j) d) (put_tail a xs ys) (sym (length-take-le a xs h))
       ∙ get_or-append-add (take a xs) ys j d
 
 pub within_ext : (m : ℕ) (f f' g g' : ℕ → Complex) → ((j : ℕ) → j < m → f j ≡ f' j) → ((j : ℕ) → g j ≡ g' j) → within m f g ≡ within m f' g'
 within_ext m f f' g g' e e2 =
     fun_ext (λ k. elim (dec_lt k m) [
       | yes l ↦ within-lt m f g k l ∙ e k l ∙ sym (within-lt m f' g' k l)
-      | no h ↦ within-ge m f g k (omega arith) ∙ e2 k ∙ sym (within-ge m f' g' k (omega arith))
+      | no h ↦ within_ge m f g k (omega arith) ∙ e2 k ∙ sym (within_ge m f' g' k (omega arith))
     ])
 
 -- the q-th sub-transform was done on the parts from q m on
@@ -46,11 +46,11 @@ module _ (w : ℕ → ℕ → Complex) (m s o q : ℕ) (hm : 0 < m) where
       let rest : (q * m + j) % m ≡ j = mul-add-mod_self_right q m j ∙ mod-eq_of_lt l in
       sym (ap₂ (λ (a b : ℕ). w (o + a * s) b) quot rest)
 
-  pub call-done : (g₀ : ℕ → Complex) (re im ys zs : List Float) → q * m ≤ length re → q * m ≤ length im
+  pub call_done : (g₀ : ℕ → Complex) (re im ys zs : List Float) → q * m ≤ length re → q * m ≤ length im
       → at re im ≡ within (q * m) (blocks w m s o) g₀
       → at ys zs ≡ within m (w (o + q * s)) (at (mid_of (q * m) (length re - q * m) re) (mid_of (q * m) (length im - q * m) im))
       → at (put_mid (q * m) (length re - q * m) re ys) (put_mid (q * m) (length im - q * m) im zs) ≡ within ((q + 1) * m) (blocks w m s o) g₀
-  call-done g₀ re im ys zs hr hi before call =
+  call_done g₀ re im ys zs hr hi before call =
       within-part m q (blocks w m s o) g₀ (at re im) _ (at ys zs) before
       (call ∙ within_ext m _ _ _ _ block_at (λ j. λ i. record { r = mid_at nan (q * m) re hr j i; i = mid_at nan (q * m) im hi j i }))
       (λ k l. λ i. record { r = put_low nan (q * m) re hr ys k l i; i = put_low nan (q * m) im hi zs k l i })

@@ -77,22 +77,22 @@ module _ (ps : List ℕ) (p m : ℕ) (rest : List ℕ) (sp : Split ps p m rest) 
   pub whole : p * m ≡ span ps
   whole = sym (ap span sp.is)
 
-  pub inner-positive : 0 < m
-  inner-positive = subst (λ (k : ℕ). 0 < k) (sym sp.inner) (span_positive rest sp.rest-planned)
+  pub inner_positive : 0 < m
+  inner_positive = subst (λ (k : ℕ). 0 < k) (sym sp.inner) (span_positive rest sp.rest-planned)
 
   -- a stage's twiddles, and those of the rest
-  pub table-nums : m * (p - 1) + m ≡ span ps
-  table-nums =
+  pub table_nums : m * (p - 1) + m ≡ span ps
+  table_nums =
       let e : suc (p - 1) ≡ p = omega (arith, sp.at_least) in
       omega (arith, mul-suc m (p - 1), ap (λ (k : ℕ). m * k) e, mul_comm m p, whole)
 
   -- the numbers of the q-th sub-transform
-  pub sub-nums : (s o q : ℕ) → o < s → q < p → (q * m + m ≤ span ps) × (span rest * (s * p) ≡ span ps * s) × (s * p ≤ span ps * s) × (o + q * s < s * p)
-  sub-nums s o q ho hq =
+  pub sub_nums : (s o q : ℕ) → o < s → q < p → (q * m + m ≤ span ps) × (span rest * (s * p) ≡ span ps * s) × (s * p ≤ span ps * s) × (o + q * s < s * p)
+  sub_nums s o q ho hq =
       let e : m * (s * p) ≡ span ps * s = mul_comm m (s * p) ∙ mul_assoc s p m ∙ ap (λ (k : ℕ). s * k) whole ∙ mul_comm s (span ps) in (
         omega (arith, mul-le-mul_right m hq, suc-mul q m, whole),
         ap (λ (k : ℕ). k * (s * p)) (sym sp.inner) ∙ e,
-        omega (arith, mul-le-mul_right (s * p) inner-positive, e),
+        omega (arith, mul-le-mul_right (s * p) inner_positive, e),
         omega (arith, mul-le-mul_right s hq, suc-mul q s, mul_comm s p),
       )
 
@@ -111,12 +111,12 @@ below (p ∷ m ∷ []) h v =
 below (p ∷ m ∷ r ∷ ps) h v =
     let s = split p m (r ∷ ps) h in
     record {
-      innermost = λ e. absurd (no-fifth p m s.at_least (leb→le p 4 (and_l (leb p 4) (fives (r ∷ ps)) v)) e);
+      innermost = λ e. absurd (no_fifth p m s.at_least (leb→le p 4 (and_l (leb p 4) (fives (r ∷ ps)) v)) e);
       others = λ e. (omega arith, omega (arith, span_positive (r ∷ ps) s.rest-planned, mul-le-mul_right m s.at_least, s.inner));
     }
   where
-    no-fifth : (p m : ℕ) → 2 ≤ p → p ≤ 4 → p * m ≡ 5 → ⊥
-    no-fifth p m = by_radix (λ p. p * m ≡ 5 → ⊥) (λ e. omega arith) (λ e. omega arith) (λ e. omega arith) p
+    no_fifth : (p m : ℕ) → 2 ≤ p → p ≤ 4 → p * m ≡ 5 → ⊥
+    no_fifth p m = by_radix (λ p. p * m ≡ 5 → ⊥) (λ e. omega arith) (λ e. omega arith) (λ e. omega arith) p
 
 -- of a plan that `kf_work` takes
 pub record Taken (ps : List ℕ) (p : ℕ) (rest : List ℕ) : Type 0 where

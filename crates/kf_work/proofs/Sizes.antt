@@ -33,8 +33,8 @@ sized n s =
     let t2 = and_r (planned (plan n)) _ t1 in
     let t3 = and_r (fives (plan n)) _ t2 in
     record {
-      plan-radixes = and_l (planned (plan n)) _ t1;
-      plan-fives = and_l (fives (plan n)) _ t2;
+      plan_radixes = and_l (planned (plan n)) _ t1;
+      plan_fives = and_l (fives (plan n)) _ t2;
       stages = ltb→lt 2 (length (plan n)) (and_l (ltb 2 (length (plan n))) _ t3);
       whole = eqb→eq (span (plan n)) n (and_r (ltb 2 (length (plan n))) _ t3);
     }
@@ -57,4 +57,4 @@ pub unpacked : (n : ℕ) → T (among fft_sizes n) → (t u x : ℕ → Complex)
 unfolding packed_spectrum spectrum
 unpacked n k t u x inverse pk =
     let s = sized n k in
-    fun_ext (packed_work_lem t u x inverse (plan n) 1 0 s.plan-radixes s.plan-fives pk)
+    fun_ext (packed_work_lem t u x inverse (plan n) 1 0 s.plan_radixes s.plan_fives pk)

@@ -16,12 +16,12 @@ module _ (n : ℕ) (f g : ℕ → Complex) (k : ℕ) where
   unfolding within
   within-lt h = rw (lt-ltb k n h)
 
-  pub within-ge : n ≤ k → within n f g k ≡ g k
+  pub within_ge : n ≤ k → within n f g k ≡ g k
   unfolding within
-  within-ge h = rw (le-ltb k n h)
+  within_ge h = rw (le-ltb k n h)
 
 pub within_none : (f g : ℕ → Complex) → g ≡ within 0 f g
-within_none f g = fun_ext (λ k. sym (within-ge 0 f g k (omega arith)))
+within_none f g = fun_ext (λ k. sym (within_ge 0 f g k (omega arith)))
 
 pub within_more : (q : ℕ) (f g : ℕ → Complex) → upd (within q f g) q (f q) ≡ within (q + 1) f g
 within_more q f g = fun_ext (λ k. elim (ℕ_discrete k q) [ yes e ↦ here k e | no n ↦ elim (dec_lt k q) [ yes l ↦ low k n l | no h ↦ high k n h ] ])
@@ -33,7 +33,7 @@ within_more q f g = fun_ext (λ k. elim (ℕ_discrete k q) [ yes e ↦ here k e 
     low k n l = upd_other _ _ _ _ n ∙ within-lt q f g k l ∙ sym (within-lt (q + 1) f g k (omega arith))
 
     high : (k : ℕ) → (k ≡ q → ⊥) → (k < q → ⊥) → upd (within q f g) q (f q) k ≡ within (q + 1) f g k
-    high k n h = upd_other _ _ _ _ n ∙ within-ge q f g k (omega arith) ∙ sym (within-ge (q + 1) f g k (omega arith))
+    high k n h = upd_other _ _ _ _ n ∙ within_ge q f g k (omega arith) ∙ sym (within_ge (q + 1) f g k (omega arith))
 
 -- the part from a = q m on is lent, and comes back with its first m places at those of f
 pub within-part : (m q : ℕ) (f g₀ g g' h' : ℕ → Complex) → g ≡ within (q * m) f g₀
@@ -58,9 +58,9 @@ within-part m q f g₀ g g' h' before call low tail = fun_ext (λ k. elim (dec_l
         ap g' is ∙ tail j ∙ ap (λ (c : ℕ → Complex). c j) call in
         elim (dec_lt j m) [
           | yes l ↦ stored ∙ within-lt m _ _ j l ∙ ap f (sym is) ∙ sym (within-lt ((q + 1) * m) f g₀ k (omega arith))
-          | no n ↦ stored ∙ within-ge m _ _ j (omega arith) ∙ ap g (sym is) ∙ ap (λ (c : ℕ → Complex). c k) before
-              ∙ within-ge (q * m) f g₀ k (omega arith)
-              ∙ sym (within-ge ((q + 1) * m) f g₀ k (omega arith))
+          | no n ↦ stored ∙ within_ge m _ _ j (omega arith) ∙ ap g (sym is) ∙ ap (λ (c : ℕ → Complex). c k) before
+              ∙ within_ge (q * m) f g₀ k (omega arith)
+              ∙ sym (within_ge ((q + 1) * m) f g₀ k (omega arith))
         ]
 
 pub filled : (q : ℕ) (f g₀ g g' : ℕ → Complex) (v : Complex) → g ≡ within q f g₀ → v ≡ f q → g' ≡ upd g q v → g' ≡ within (q + 1) f g₀
@@ -71,4 +71,4 @@ pub stride_in : (s p o q n : ℕ) → o < s → q < p → p * s ≤ n → o + q 
 stride_in s p o q n ho hq hn = omega (arith, mul-le-mul_right s hq, suc-mul q s)
 
 pub within-zero : (m : ℕ) (f g : ℕ → Complex) → g ≡ within (0 * m) f g
-within-zero m f g = fun_ext (λ k. sym (within-ge (0 * m) f g k (omega arith)))
+within-zero m f g = fun_ext (λ k. sym (within_ge (0 * m) f g k (omega arith)))

@@ -13,8 +13,8 @@ use Rattle.butterflies.proofs.Columns.{Local}
 use Rattle.butterflies.proofs.Local.{local2, local3, local4}
 use Rattle.kf_work.specs.Work.{within, span}
 use Rattle.kf_work.specs.Packed.{after, packed_column, packed_work}
-use Rattle.kf_work.proofs.Spread.{within-lt, within-ge}
-use Rattle.kf_work.proofs.Plan.{by_radix, Split, whole, inner-positive}
+use Rattle.kf_work.proofs.Spread.{within-lt, within_ge}
+use Rattle.kf_work.proofs.Plan.{by_radix, Split, whole, inner_positive}
 
 -- the sub-transforms of m places each, one after the other
 abbrev pub blocks : (ℕ → ℕ → Complex) → ℕ → ℕ → ℕ → ℕ → Complex
@@ -55,8 +55,8 @@ finish p m b loc h w f g g' before after = fun_ext (λ k. elim (dec_lt k (p * m)
         ap (λ (c : ℕ → Complex). c k) after
         ∙ stage_past p m b g k l
         ∙ ap (λ (c : ℕ → Complex). c k) before
-        ∙ within-ge (p * m) w f k l
-        ∙ sym (within-ge (p * m) (stage p m b w) f k l)
+        ∙ within_ge (p * m) w f k l
+        ∙ sym (within_ge (p * m) (stage p m b w) f k l)
 
 -- the transform by a plan, as one stage over the sub-transforms by the rest of it
 work_is : (u x : ℕ → Complex) (inverse : Bool) (ps : List ℕ) (p m : ℕ) (rest : List ℕ) (s o : ℕ) → Split ps p m rest
@@ -71,7 +71,7 @@ pub staged : (u x : ℕ → Complex) (inverse : Bool) (ps : List ℕ) (p m : ℕ
 staged u x inverse ps p m rest s o sp low f g g' before turned =
     let all = whole _ _ _ _ sp in
     rw (work_is u x inverse ps p m rest s o sp, ← all)
-    (finish p m (packed_column u inverse p m) (column_local u inverse p m sp.at_least low) (inner-positive _ _ _ _ sp) _ f g g' (rw (← all) at before) turned)
+    (finish p m (packed_column u inverse p m) (column_local u inverse p m sp.at_least low) (inner_positive _ _ _ _ sp) _ f g g' (rw (← all) at before) turned)
 
 -- what a sub-transform makes, with its length and its table by other names
 pub sub_is : (u v x : ℕ → Complex) (inverse : Bool) (rest : List ℕ) (s o n m : ℕ) → n ≡ m → u ≡ v → (f g : ℕ → Complex)

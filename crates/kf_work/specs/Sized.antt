@@ -6,9 +6,9 @@ use Rattle.kf_work.specs.Packed.{fives}
 
 pub record Sized (n : ℕ) : Type 0 where
   -- no radix but 2, 3, 4 and 5, so `kf_bfly_generic` is never reached; and each inner length is the size of what is left of the plan
-  pub plan-radixes : T (planned (plan n))
+  pub plan_radixes : T (planned (plan n))
   -- the innermost radix is 5, and no other one
-  pub plan-fives : T (fives (plan n))
+  pub plan_fives : T (fives (plan n))
   -- the plan has a stage above the innermost
   pub stages : 2 < length (plan n)
   -- it multiplies to the size: the 16 steps that `plan` takes at most are enough

@@ -1,6 +1,9 @@
 // The recursive transform by a plan, below the tables and the refusals: the stage that calls itself on the rest of the plan.
 // Ported from src/common/kissfft.rs of lc3-codec 0.2.0, and changed: real and imaginary parts in slices of their own, twiddles and plan
 // lent, the twiddles in the order in which the stages read them; the innermost stage is done in the one above it. The butterflies are a crate below this one.
+
+#![tactic(auto)]
+
 ghost use Rattle.std.specs.Prelude.{◌≡◌, false, ◌+◌, ◌*◌, ◌<◌, ◌≤◌, length, get_or};
 ghost use Rattle.complex.specs.Complex.{at};
 ghost use Rattle.columns.specs.Column.{of5};

@@ -42,34 +42,34 @@ module _ (n : ℕ) (x y : List Float) (c d : ℕ) where
   abbrev says : ℕ → ℕ → Type 0
   says v i = ◌≡◌ {A = Verdict} (record { number = v; index = i }) (verdict n x y c d)
 
-  pub says-2 : among fft_sizes n ≡ false → says 2 0
+  pub says_2 : among fft_sizes n ≡ false → says 2 0
   unfolding verdict number
-  says-2 k = rw k
+  says_2 k = rw k
 
-  pub says-3 : among fft_sizes n ≡ true → (eqb (length x) n && eqb (length y) n) ≡ false → says 3 0
+  pub says_3 : among fft_sizes n ≡ true → (eqb (length x) n && eqb (length y) n) ≡ false → says 3 0
   unfolding verdict number
-  says-3 k e = rw (k, e)
+  says_3 k e = rw (k, e)
 
-  pub says-4 : among fft_sizes n ≡ true → length x ≡ n → length y ≡ n → (eqb c n && eqb d n) ≡ false → says 4 0
+  pub says_4 : among fft_sizes n ≡ true → length x ≡ n → length y ≡ n → (eqb c n && eqb d n) ≡ false → says 4 0
   unfolding verdict number
-  says-4 k ex ey e = rw (k, eq-eqb (length x) n ex, eq-eqb (length y) n ey, e)
+  says_4 k ex ey e = rw (k, eq-eqb (length x) n ex, eq-eqb (length y) n ey, e)
 
   module _ (k : among fft_sizes n ≡ true) (ex : length x ≡ n) (ey : length y ≡ n) (ec : c ≡ n) (ed : d ≡ n) where
-    pub says-6 : (i : ℕ) → i ≡ first_bad x y → i < n → says 6 i
+    pub says_6 : (i : ℕ) → i ≡ first_bad x y → i < n → says 6 i
     unfolding verdict number
-    says-6 i e l = rw (e, k, eq-eqb (length x) n ex, eq-eqb (length y) n ey, eq-eqb c n ec, eq-eqb d n ed, lt-ltb (first_bad x y) n (rw e at l))
+    says_6 i e l = rw (e, k, eq-eqb (length x) n ex, eq-eqb (length y) n ey, eq-eqb c n ec, eq-eqb d n ed, lt-ltb (first_bad x y) n (rw e at l))
 
-    pub says-0 : (i : ℕ) → i ≡ first_bad x y → n ≤ i → says 0 0
+    pub says_0 : (i : ℕ) → i ≡ first_bad x y → n ≤ i → says 0 0
     unfolding verdict number
-    says-0 i e l = rw (k, eq-eqb (length x) n ex, eq-eqb (length y) n ey, eq-eqb c n ec, eq-eqb d n ed, le-ltb (first_bad x y) n (rw e at l))
+    says_0 i e l = rw (k, eq-eqb (length x) n ex, eq-eqb (length y) n ey, eq-eqb c n ec, eq-eqb d n ed, le-ltb (first_bad x y) n (rw e at l))
 
 -- what acceptance says
 pub record Accepted (n : ℕ) (x y : List Float) (c d : ℕ) : Type 0 where
   pub size : T (among fft_sizes n)
   pub x_fits : length x ≡ n
-  pub y-fits : length y ≡ n
-  pub c-fits : c ≡ n
-  pub d-fits : d ≡ n
+  pub y_fits : length y ≡ n
+  pub c_fits : c ≡ n
+  pub d_fits : d ≡ n
 
 pub accepts : (n : ℕ) (x y : List Float) (c d : ℕ) (v : Verdict) → v ≡ verdict n x y c d → v.number ≡ 0 → Accepted n x y c d
 unfolding verdict number
@@ -81,9 +81,9 @@ accepts n x y c d v e z =
     record {
       size = p1.0;
       x_fits = (both_are _ _ n p2.0).0;
-      y-fits = (both_are _ _ n p2.0).1;
-      c-fits = (both_are _ _ n p3.0).0;
-      d-fits = (both_are _ _ n p3.0).1;
+      y_fits = (both_are _ _ n p2.0).1;
+      c_fits = (both_are _ _ n p3.0).0;
+      d_fits = (both_are _ _ n p3.0).1;
     }
 
 module _ (size : ℕ) (inverse : Bool) (x y re im : List Float) (v : Verdict) (e : v ≡ verdict size x y (length re) (length im)) where

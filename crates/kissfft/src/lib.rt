@@ -1,6 +1,9 @@
 // The complex FFT: its refusals, the tables of its size, and the entry.
 // Ported from src/common/kissfft.rs of lc3-codec 0.2.0, and changed: the tables are constant, and refusals stand in place of panics. The
 // transform itself is a crate below this one.
+
+#![tactic(auto)]
+
 ghost use Rattle.std.specs.Prelude.{◌≡◌, ◌++◌, map, ◌≤◌, ◌<◌, length, take, drop};
 ghost use Rattle.std.specs.Float.Ieee.{neg};
 ghost use Rattle.fft_tables.specs.FftTables.{packed_table, packed_table_of};

@@ -27,8 +27,8 @@ record Ahead (l : List Float) (n b : ℕ) : Type 0 where
   pub most : (k : ℕ) → k < n → lt (get_or l b nan) (get_or l k nan) ≡ false
 
 module _ (l : List Float) (R : (k : ℕ) → k < length l → T (ranked (get_or l k nan))) where
-  ahead-one : 0 < length l → Ahead l 1 0
-  ahead-one h = record {
+  ahead_one : 0 < length l → Ahead l 1 0
+  ahead_one h = record {
     inside = omega arith;
     before = λ k u. absurd (not-suc-le-zero u);
     most = λ k u. let e : k ≡ 0 = omega arith in rw e (same_not (get_or l 0 nan) (R 0 h));
@@ -53,14 +53,14 @@ module _ (l : List Float) (R : (k : ℕ) → k < length l → T (ranked (get_or 
   ahead_more : (n b : ℕ) → n < length l → Ahead l n b → Ahead l (suc n) (better l b n)
   ahead_more n b h a = ⊎_elim (λ e. rw e (takes n b h a (holds e))) (λ e. rw e (keeps n b a e)) (outcomes (lt (get_or l b nan) (get_or l n nan)))
 
-  best-ahead : (n : ℕ) → n < length l → Ahead l (suc n) (best l (suc n))
+  best_ahead : (n : ℕ) → n < length l → Ahead l (suc n) (best l (suc n))
   unfolding best
-  best-ahead zero h = rw (same_not (get_or l 0 nan) (R 0 h)) (ahead-one h)
-  best-ahead (suc n) h = ahead_more (suc n) (best l (suc n)) h (best-ahead n (omega arith))
+  best_ahead zero h = rw (same_not (get_or l 0 nan) (R 0 h)) (ahead_one h)
+  best_ahead (suc n) h = ahead_more (suc n) (best l (suc n)) h (best_ahead n (omega arith))
 
   whole : (n : ℕ) → n ≡ length l → 0 < n → Ahead l n (best l n)
   whole zero e h = absurd (not-suc-le-zero h)
-  whole (suc n) e h = best-ahead n (omega arith)
+  whole (suc n) e h = best_ahead n (omega arith)
 
   -- THE LAW: the scan's place is the first with the greatest
   pub best-first : 0 < length l → First l (best l (length l))

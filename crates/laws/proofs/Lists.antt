@@ -9,7 +9,7 @@ use native.Mathlib.Nat.{not-suc-le-zero, le_of_suc-le-suc}
 use native.Mathlib.Numerals.{add-one}
 use native.Mathlib.Omega.{arith}
 use borrow.Author.Count.{below_more}
-use borrow.Author.Tests.{eq-eqb, ne_eqb, not_true, not-false}
+use borrow.Author.Tests.{eq-eqb, ne_eqb, not-true, not-false}
 use lib.Dec.{eqb}
 use lib.ListN.{length, get_or, take, drop, set, length-set, replicate, length-replicate, get_or-replicate}
 use lib.Seq.{drop-cons, set_at, append_snoc, drop-length, get_or_at, ext_get_or}
@@ -44,10 +44,10 @@ tab-snoc zero f = refl
 tab-snoc {A} (suc n) f = ap (λ (l : List A). f 0 ∷ l) (tab-snoc n (λ k. f (suc k)))
 
 -- every list is the tab of its places
-pub tab-get_or : {A : Type 0} (l : List A) (d : A) → tab (length l) (λ k. get_or l k d) ≡ l
+pub tab_get_or : {A : Type 0} (l : List A) (d : A) → tab (length l) (λ k. get_or l k d) ≡ l
 unfolding tab
-tab-get_or [] d = refl
-tab-get_or {A} (x ∷ xs) d = ap (λ (l : List A). x ∷ l) (tab-get_or xs d)
+tab_get_or [] d = refl
+tab_get_or {A} (x ∷ xs) d = ap (λ (l : List A). x ∷ l) (tab_get_or xs d)
 
 -- the first n places of a list that has as many
 pub take-tab : {A : Type 0} (n : ℕ) (l : List A) (d : A) → n ≤ length l → take n l ≡ tab n (λ k. get_or l k d)
@@ -145,16 +145,16 @@ Searched p d l i = (i ≤ length l) × ((k : ℕ) → k < i → p (get_or l k d)
 
 module _ {A : Type 0} (p : A → Bool) (d : A) (l : List A) where
   module _ {i : ℕ} (h : Searched p d l i) where
-    pub searched-all : length l ≤ i → i ≡ first p l
-    searched-all b = let e : i ≡ length l = omega arith in e ∙ first-none p l d (λ k u. h.1 k (omega arith))
+    pub searched_all : length l ≤ i → i ≡ first p l
+    searched_all b = let e : i ≡ length l = omega arith in e ∙ first-none p l d (λ k u. h.1 k (omega arith))
 
     -- v is what the code's test of place i gave
     module _ (b : i < length l) {v : Bool} (e : v ≡ p (get_or l i d)) where
-      pub searched-more : not v ≡ false → Searched p d l (i + 1)
-      searched-more t = (omega arith, below_more _ _ h.1 (sym e ∙ not-false v t))
+      pub searched_more : not v ≡ false → Searched p d l (i + 1)
+      searched_more t = (omega arith, below_more _ _ h.1 (sym e ∙ not-false v t))
 
-      pub searched-here : not v ≡ true → i ≡ first p l
-      searched-here t = first-at p l d i b h.1 (sym e ∙ not_true v t)
+      pub searched_here : not v ≡ true → i ≡ first p l
+      searched_here t = first-at p l d i b h.1 (sym e ∙ not-true v t)
 
 pub first-le : {A : Type 0} (p : A → Bool) (l : List A) → first p l ≤ length l
 unfolding first

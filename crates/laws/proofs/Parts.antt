@@ -8,10 +8,10 @@ use lib.Seq.{take_all}
 use borrow.Rule.Slice.PartMut.{mid_of, put_mid}
 
 module _ {A : Type 0} (a : ℕ) (l : List A) where
-  pub mid-tail : mid_of a (length l - a) l ≡ drop a l
-  mid-tail = take_all (length l - a) (drop a l) (omega (arith, length-drop a l))
+  pub mid_tail : mid_of a (length l - a) l ≡ drop a l
+  mid_tail = take_all (length l - a) (drop a l) (omega (arith, length-drop a l))
 
-  pub put-tail : (q : List A) → put_mid a (length l - a) l q ≡ take a l ++ q
-  put-tail q =
+  pub put_tail : (q : List A) → put_mid a (length l - a) l q ≡ take a l ++ q
+  put_tail q =
       ap (λ (r : List A). take a l ++ (q ++ r)) (drop_of_length-le (drop a l) {i = length l - a} (omega (arith, length-drop a l)))
       ∙ ap (λ (r : List A). take a l ++ r) (append-nil q)

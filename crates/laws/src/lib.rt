@@ -1,4 +1,7 @@
 // The ground of every proof here: the two tests of values that refusals 6 and 7 make, and laws on f32, lists and tables.
+
+#![tactic(auto)]
+
 ghost use Rattle.std.specs.Prelude.{◌≡◌, eqb, length};
 ghost use Rattle.laws.specs.Lists.{first};
 ghost use Rattle.laws.specs.Passes.{passes6, passes7};

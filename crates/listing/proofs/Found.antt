@@ -1,6 +1,6 @@
 -- What is known where a record is a frame, and that no frame is longer than 480 samples. Assumes nothing.
 use mathlib.Core.Path.{◌≡◌, refl, sym, ap, subst}
-use mathlib.Core.Logic.{◌⊎◌, ⊎_elim}
+use mathlib.Core.Logic.{⊎_elim}
 use mathlib.Core.Bool.{Bool, true, false, cond}
 use mathlib.Core.List.{List}
 use Prim.Native.Nat.{ℕ, ◌≤◌}
@@ -60,6 +60,6 @@ past {c} h = let e = get_or-eq_default rows none {n = c} (omega (arith, rows_all
 pub nf_most : (c : ℕ) → nf c ≤ 480
 nf_most c =
     ⊎_elim
-    (λ l. (sound c (lt-valid c (ltb-true c (length configs) l))).nf-le)
+    (λ l. (sound c (lt-valid c (ltb-true c (length configs) l))).nf_le)
     (λ l. past (ltb-false c (length configs) l))
     (outcomes (ltb c (length configs)))

@@ -32,8 +32,8 @@ module _ {A : Type 0} (m : ℕ) (a : A) {n k : ℕ} {l : List A} (p : l ≡ repl
   pub part_length : n ≡ length (take n l)
   part_length = sym (length-take-le n l part-within)
 
-  pub part-is : take n l ≡ replicate k a
-  part-is = ap₂ take q p ∙ take-replicate k m a h
+  pub part_is : take n l ≡ replicate k a
+  part_is = ap₂ take q p ∙ take-replicate k m a h
 
 abbrev told : ℕ → Given × Channel → ms.Given → Listened
 told c g m = record { flag = m.flag; loudest = (heard c m.energies).loudest; channel = g.1 }
@@ -43,12 +43,12 @@ answer r m h = record { flag = m.flag; loudest = h.loudest; channel = r.channel 
 
 module _ (ch : Channel) (x : List ℤ) where
   -- l is lent to the frame call and comes back as l', e and o to the measurement and come back as e' and o'
-  pub listened-is : (l l' e e' : List Float) (o o' : List ℕ) (r : Framed) (m : Measured) (h : Heard)
+  pub listened_is : (l l' e e' : List Float) (o o' : List ℕ) (r : Framed) (m : Measured) (h : Heard)
       → l ≡ zeros (nf ch.config) → e ≡ zeros (nb ch.config) → o ≡ replicate (nb ch.config) 0
       → frames ch (lent x l) ≡ outcome r l' → ms.outcome m e' o' ≡ ms.measures ch.config (ms.lent l' e o) → h ≡ heard ch.config e'
       → (answer r m h ≡ listened ch x) × (l' ≡ (framed ch x).0.lines) × (e' ≡ (measured ch x).energies) × (o' ≡ (measured ch x).peaks)
   unfolding listened
-  listened-is l l' e e' o o' r m h p q t f g k =
+  listened_is l l' e e' o o' r m h p q t f g k =
       let f' : outcome r l' ≡ framed ch x = sym f ∙ ap (λ (a : List Float). frames ch (lent x a)) p in
       let s : l' ≡ (framed ch x).0.lines = ap (λ (y : Given × Channel). y.0.lines) f' in
       let g' : ms.outcome m e' o' ≡ measured ch x = g ∙ (λ i. ms.measures ch.config (ms.lent (s i) (q i) (t i))) in

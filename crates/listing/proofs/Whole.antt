@@ -110,10 +110,10 @@ shift : (a b : ℕ) → a + suc b ≡ suc a + b
 shift a b = omega arith
 
 module _ (m : ℕ) (go : Run m) (c : ℕ) (l : Lister) (g : List ℕ) (e : l.channel.config ≡ c) (short : length g < suc m) where
-  on-frame : (n used : ℕ) → record_of c g ≡ Frame used → length g ≤ suc n → length (rest m c g (Frame used)).frames + l.count < 2 ^ 64
+  on_frame : (n used : ℕ) → record_of c g ≡ Frame used → length g ≤ suc n → length (rest m c g (Frame used)).frames + l.count < 2 ^ 64
       → written (suc n) (found_at c l g (Frame used)) g ≡ tail l (rest m c g (Frame used))
   unfolding frame_lines
-  on-frame n used q room few =
+  on_frame n used q room few =
       let w = whole c g used q in
       let s = sound c w.known in
       let x = samples (nf c) (take used g) in
@@ -132,28 +132,28 @@ module _ (m : ℕ) (go : Run m) (c : ℕ) (l : Lister) (g : List ℕ) (e : l.cha
       ∙ sym (append_assoc (line_of l.count h) (frame_lines h.channel (suc l.count) k.frames) (last_line (suc (length k.frames) + l.count) k.ending))
 
   -- a frame has bytes, so there is a turn for it
-  on-any : (n used : ℕ) → record_of c g ≡ Frame used → length g ≤ n → length (rest m c g (Frame used)).frames + l.count < 2 ^ 64
+  on_any : (n used : ℕ) → record_of c g ≡ Frame used → length g ≤ n → length (rest m c g (Frame used)).frames + l.count < 2 ^ 64
       → written n (found_at c l g (Frame used)) g ≡ tail l (rest m c g (Frame used))
-  on-any zero used q room few =
+  on_any zero used q room few =
       let w = whole c g used q in
       let s = sound c w.known in
       absurd (omega (arith, w.room, s.even, s.half_pos))
-  on-any (suc n) used q room few = on-frame n used q room few
+  on_any (suc n) used q room few = on_frame n used q room few
 
-  by-record : (n : ℕ) (r : Record) → record_of c g ≡ r → length g ≤ n → length (rest m c g r).frames + l.count < 2 ^ 64
+  by_record : (n : ℕ) (r : Record) → record_of c g ≡ r → length g ≤ n → length (rest m c g r).frames + l.count < 2 ^ 64
       → written n (found_at c l g r) g ≡ tail l (rest m c g r)
   unfolding frame_lines
-  by-record n (Frame used) q room few = on-any n used q room few
-  by-record n End q room few = ends n _ g l ∙ ap (λ (z : ℕ). last_line z End) (sym (zero-add l.count))
-  by-record n Cut q room few = ends n _ g l
-  by-record n Astray q room few = ends n _ g l
+  by_record n (Frame used) q room few = on_any n used q room few
+  by_record n End q room few = ends n _ g l ∙ ap (λ (z : ℕ). last_line z End) (sym (zero-add l.count))
+  by_record n Cut q room few = ends n _ g l
+  by_record n Astray q room few = ends n _ g l
 
 run : (m : ℕ) → Run m
 run zero n c l g e short room few = absurd (not-suc-le-zero short)
 run (suc m) n c l g e short room few =
     let k = reading_by m c g (record_of c g) refl in
     ap (λ (s : Stepped). written n s g) (step-at c l g e)
-    ∙ by-record m (run m) c l g e short n (record_of c g) refl room (subst (λ (t : Contents). length t.frames + l.count < 2 ^ 64) k few)
+    ∙ by_record m (run m) c l g e short n (record_of c g) refl room (subst (λ (t : Contents). length t.frames + l.count < 2 ^ 64) k few)
     ∙ ap (tail l) (sym k)
 
 -- ---- a good header's configuration
@@ -237,11 +237,11 @@ pub listed-whole : Listed
 unfolding opening listing step header_of marked
 listed-whole =
     record {
-      listing-is = λ f few. of_header f (header_of lmf f) refl few;
-      step-reads = λ l f v.
+      listing_is = λ f few. of_header f (header_of lmf f) refl few;
+      step_reads = λ l f v.
           let c = l.channel.config in
           ap (found l (take (frame_bytes c) f)) (reads c f v) ∙ found_reads l f (record_of c f) (used_most c f (record_of c f) refl);
-      opening-reads = λ f.
+      opening_reads = λ f.
           ⊎_elim
           (λ h. ap (λ (g : List ℕ). opened (header_of lmf g)) (take_all 6 f (omega (arith, ltb-true (length f) 6 h))))
           (λ h.

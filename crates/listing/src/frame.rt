@@ -7,7 +7,7 @@ ghost use Rattle.listing.specs.Listing.{zeros, listened, ListenedIn};
 use analysis::Channel;
 use loudest::Loudest;
 
-#[derive(Drop)]
+#[derive(Clone, Copy)]
 pub struct Listened {
     pub flag: bool,
     pub loudest: Loudest,

@@ -1,5 +1,8 @@
 // The listing of a frame file, a step for the header and one for each record: the line, the bytes used, and what is carried on.
 // New in this port.
+
+#![tactic(auto)]
+
 ghost use Rattle.std.specs.Prelude.{◌≡◌, ◌++◌, ◌≤◌, T, length};
 ghost use Rattle.config.specs.Config.{valid, nf};
 ghost use Rattle.frame_file.specs.File.{samples, frame_bytes};
@@ -16,14 +19,14 @@ pub use line::Text;
 use loudest::Loudest;
 
 // What is carried from record to record: the analysis channel and the number of frames listed.
-#[derive(Drop)]
+#[derive(Clone, Copy)]
 pub struct Lister {
     pub channel: analysis::Channel,
     pub count: u64,
 }
 
 // A line, how many bytes of the file its record used, 0 at the last line, and what is carried on.
-#[derive(Drop)]
+#[derive(Clone, Copy)]
 pub struct Stepped {
     pub text: Text,
     pub used: usize,

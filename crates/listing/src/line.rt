@@ -4,7 +4,7 @@ ghost use Rattle.std.proofs.Math.Seq.{paste};
 ghost use Rattle.plain_text.specs.Text.{decimal};
 ghost use Rattle.listing.specs.Steps.{blank, with};
 
-#[derive(Drop)]
+#[derive(Clone, Copy)]
 pub struct Text {
     pub bytes: [u8; 64],
     pub len: usize,

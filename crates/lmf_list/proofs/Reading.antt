@@ -5,11 +5,9 @@ use mathlib.Core.Bool.{Bool, true, false, cond, true≢false}
 use mathlib.Core.List.{List, ◌++◌}
 use native.Mathlib.Omega.{arith}
 use lib.Dec.{ltb}
-use lib.ListN.{length, take, length-take, length-drop}
+use lib.ListN.{length, take, length-take}
 use lib.Seq.{take-append-le}
 use borrow.Author.Tests.{le-ltb, ltb-true}
-use borrow.Rule.Slice.PartMut.{mid_of}
-use Rattle.laws.proofs.Parts.{mid-tail}
 use Rattle.frame_file.specs.File.{frame_bytes}
 use Rattle.listing.specs.declared.Lister.{Lister}
 use Rattle.listing.specs.Steps.{step}
@@ -19,15 +17,13 @@ use Rattle.lmf_list.specs.Reading.{brought, Came, Filled, Next}
 
 -- a read of n bytes to the places from `at` on
 module _ (before after : List ℕ) (at n : ℕ) (r : Input) where
-  pub came : (failed : Bool) → r ≡ brought at (at + n) failed → at ≤ length after → n ≤ length (mid_of at (length after - at) after) → take at after ≡ take at before
-      → Came before at r after
+  pub came : (failed : Bool) → r ≡ brought at (at + n) failed → at + n ≤ length after → take at after ≡ take at before → Came before at r after
   unfolding brought
-  came true e h g t =
+  came true e h t =
       subst (λ (r : Input). Came before at r after) (sym e)
-      (record { from = omega arith; within = h; stays = t; more = sym (le-ltb at at (omega arith)); failed = λ q. refl })
-  came false e h g t =
-      let l : length (mid_of at (length after - at) after) ≡ length after - at = ap length (mid-tail at after) ∙ length-drop at after in
-      subst (λ (r : Input). Came before at r after) (sym e) (record { from = omega arith; within = omega arith; stays = t; more = refl; failed = λ q. absurd (true≢false q) })
+      (record { from = omega arith; within = omega arith; stays = t; more = sym (le-ltb at at (omega arith)); failed = λ q. refl })
+  came false e h t =
+      subst (λ (r : Input). Came before at r after) (sym e) (record { from = omega arith; within = h; stays = t; more = refl; failed = λ q. absurd (true≢false q) })
 
 -- what is left of n places, and one read more where more may come
 abbrev pub left : ℕ → Input → ℕ

@@ -2,7 +2,7 @@
 use Prim.Native.Nat.{ℕ, ◌+◌, ◌-◌, ◌*◌, ◌^◌, ◌≤◌, ◌<◌}
 use mathlib.Core.Path.{◌≡◌, refl, sym, ap, ◌∙◌, subst}
 use mathlib.Core.Logic.{◌⊎◌, inl, inr, ⊎_elim}
-use mathlib.Core.Bool.{Bool, true, false, cond, true≢false}
+use mathlib.Core.Bool.{Bool, true, false, cond}
 use mathlib.Core.List.{List}
 use native.Mathlib.Omega.{arith}
 use lib.Dec.{eqb}
@@ -54,18 +54,15 @@ pub record Goes (s t : Stepped) : Type 0 where
   pub less : to_go t < to_go s
 
 -- a step after one that was not the last
-pub goes : (s t : Stepped) (f : List ℕ) → (s.used ≡ 0 → ⊥) → eqb (listed s) (2 ^ 64 - 1) ≡ false → listed s ≤ 2 ^ 64 - 1 → t ≡ step s.lister f → Goes s t
+pub goes : (s t : Stepped) (f : List ℕ) → (s.used ≡ 0 → ⊥) → (listed s ≡ 2 ^ 64 - 1 → ⊥) → listed s ≤ 2 ^ 64 - 1 → t ≡ step s.lister f → Goes s t
 unfolding counted
 goes s t f u c h e = subst (λ (t : Stepped). Goes s t) (sym e) (⊎_elim more last (advances s.lister f))
   where
     n : Stepped
     n = step s.lister f
 
-    other : listed s ≡ 2 ^ 64 - 1 → ⊥
-    other e = true≢false (sym (eq-eqb (listed s) (2 ^ 64 - 1) e) ∙ c)
-
     room : listed s < 2 ^ 64 - 1
-    room = omega (arith, other)
+    room = omega (arith, c)
 
     more : listed n ≡ counted (listed s) → Goes s n
     more p =

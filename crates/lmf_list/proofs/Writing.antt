@@ -14,15 +14,15 @@ use Rattle.lmf_list.specs.declared.Output.{Output}
 use Rattle.lmf_list.specs.Writing.{waiting, Room, Put}
 
 module _ (room n : ℕ) where
-  pub made-room : (ok : Bool) → ltb (room - n) 64 ≡ true → Room room n (record { len = 0; ok = ok })
-  made-room ok t = record { len = sym (ap (λ (b : Bool). cond b 0 n) t); ok = λ q. absurd (true≢false (sym t ∙ q)) }
+  pub made_room : (ok : Bool) → ltb (room - n) 64 ≡ true → Room room n (record { len = 0; ok = ok })
+  made_room ok t = record { len = sym (ap (λ (b : Bool). cond b 0 n) t); ok = λ q. absurd (true≢false (sym t ∙ q)) }
 
-  pub had-room : ltb (room - n) 64 ≡ false → Room room n (record { len = n; ok = true })
-  had-room t = record { len = sym (ap (λ (b : Bool). cond b 0 n) t); ok = λ q. refl }
+  pub had_room : ltb (room - n) 64 ≡ false → Room room n (record { len = n; ok = true })
+  had_room t = record { len = sym (ap (λ (b : Bool). cond b 0 n) t); ok = λ q. refl }
 
   -- and a line of 64 bytes finds it
-  pub room-enough : 64 ≤ room → n ≤ room → waiting room n + 64 ≤ room
-  room-enough h g = go (ltb (room - n) 64) refl
+  pub room_enough : 64 ≤ room → n ≤ room → waiting room n + 64 ≤ room
+  room_enough h g = go (ltb (room - n) 64) refl
     where
       go : (b : Bool) → ltb (room - n) 64 ≡ b → cond b 0 n + 64 ≤ room
       go true t = omega arith
@@ -35,7 +35,7 @@ pub put : (before : List ℕ) (n : ℕ) (t : Text) → 64 ≤ length before → 
 put before n t h g r e p l =
     record {
       len = e ∙ ap (λ (k : ℕ). k + min t.len 64) r.len;
-      within = omega (arith, r.len, room-enough (length before) n h g, min-le_right t.len 64);
+      within = omega (arith, r.len, room_enough (length before) n h g, min-le_right t.len 64);
       bytes = p ∙ ap (λ (k : ℕ). paste before k t.bytes (min t.len 64)) r.len;
       ok = r.ok;
     }

@@ -65,49 +65,49 @@ product_at es l k h = get_or-tab (length l) (product es l) nan k h
 
 -- those of a configuration are of 480 lines at most
 pub bands : (c : ℕ) → T (valid c) → Rising (nb c) (edges c) 480
-bands c v = edges_rise c (nb c) 480 (edges c) v refl (omega (arith, (sound c v).ne-le, (sound c v).nf-le)) refl
+bands c v = edges_rise c (nb c) 480 (edges c) v refl (omega (arith, (sound c v).ne_le, (sound c v).nf_le)) refl
 
 -- so a width is itself as an i32 and as an f32
 module _ (es : List ℕ) (n : ℕ) (rise : Rising n es 480) (k : ℕ) (h : k < n) where
   pub few : width es k ≤ 480
   few = omega (arith, rise k h)
 
-  pub as-i32 : to_z w32 (width es k) ≡ pos (width es k)
-  as-i32 = to_z_pos w32 (width es k) (omega (arith, few))
+  pub as_i32 : to_z w32 (width es k) ≡ pos (width es k)
+  as_i32 = to_z_pos w32 (width es k) (omega (arith, few))
 
   pub as_f32 : HasValue (of_int binary32 (pos (width es k))) false (width es k) 1
   as_f32 = whole-value (width es k) (le_trans few (lit≤ tt))
 
 -- where they pass 7
 module _ (es : List ℕ) (l : List Float) (rise : Rising (length l) es 480) (all : first passes7 l ≡ length l) where
-  pass-at : (k : ℕ) → k < length l → passes7 (get_or l k nan) ≡ true
-  pass-at k h = first_all passes7 l nan all k h
+  pass_at : (k : ℕ) → k < length l → passes7 (get_or l k nan) ≡ true
+  pass_at k h = first_all passes7 l nan all k h
 
   length-products : length (products es l) ≡ length l
   unfolding products
   length-products = length-tab (length l) (product es l)
 
-  ranked-all : (k : ℕ) → k < length (products es l) → T (ranked (get_or (products es l) k nan))
-  ranked-all k h =
+  ranked_all : (k : ℕ) → k < length (products es l) → T (ranked (get_or (products es l) k nan))
+  ranked_all k h =
       let b : k < length l = omega (arith, length-products) in
-      rw (product_at es l k b) (times-ranked (get_or l k nan) _ (width es k) (as_f32 es (length l) rise k b) (pass-at k b))
+      rw (product_at es l k b) (times-ranked (get_or l k nan) _ (width es k) (as_f32 es (length l) rise k b) (pass_at k b))
 
   -- the scan's band is the first with the greatest product
   pub scanned : 0 < length l → First (products es l) (best (products es l) (length l))
-  scanned some = subst (λ (n : ℕ). First (products es l) (best (products es l) n)) length-products (best-first (products es l) ranked-all (omega (arith, length-products)))
+  scanned some = subst (λ (n : ℕ). First (products es l) (best (products es l) n)) length-products (best-first (products es l) ranked_all (omega (arith, length-products)))
 
   inside : 0 < length l → best (products es l) (length l) < length l
   inside some = omega (arith, (scanned some).inside, length-products)
 
   ranked-at : (k : ℕ) → k < length l → T (ranked (get_or (products es l) k nan))
-  ranked-at k h = ranked-all k (omega (arith, length-products))
+  ranked-at k h = ranked_all k (omega (arith, length-products))
 
   most : 0 < length l → (k : ℕ) → k < length l → lt (get_or (products es l) (best (products es l) (length l)) nan) (get_or (products es l) k nan) ≡ false
-  most some k h = subst (λ (n : ℕ). lt (get_or (products es l) (best (products es l) n) nan) (get_or (products es l) k nan) ≡ false) length-products (best-most (products es l) ranked-all (omega (arith, length-products)) k (omega (arith, length-products)))
+  most some k h = subst (λ (n : ℕ). lt (get_or (products es l) (best (products es l) n) nan) (get_or (products es l) k nan) ≡ false) length-products (best-most (products es l) ranked_all (omega (arith, length-products)) k (omega (arith, length-products)))
 
   -- above zero: so the energy there is no zero
-  loud-is : 0 < length l → lt none (get_or (products es l) (best (products es l) (length l)) nan) ≡ true → first silent l ≡ length l → ⊥
-  loud-is some h e =
+  loud_is : 0 < length l → lt none (get_or (products es l) (best (products es l) (length l)) nan) ≡ true → first silent l ≡ length l → ⊥
+  loud_is some h e =
       let b = best (products es l) (length l) in
       let i = inside some in
       not_above (get_or (products es l) b nan) (rw (product_at es l b i) (times_zero (get_or l b nan) _ (width es b) (as_f32 es (length l) rise b i) (first_all silent l nan e b i))) h
@@ -122,14 +122,14 @@ module _ (es : List ℕ) (l : List Float) (rise : Rising (length l) es 480) (all
       each : (k : ℕ) → k < length l → silent (get_or l k nan) ≡ true
       each k u =
           let w = rise k u in
-          zero-times (get_or l k nan) (of_int binary32 (pos (width es k))) (width es k) (as_f32 es (length l) rise k u) (omega (arith, w)) (f32s k) (pass-at k u)
+          zero-times (get_or l k nan) (of_int binary32 (pos (width es k))) (width es k) (as_f32 es (length l) rise k u) (omega (arith, w)) (f32s k) (pass_at k u)
           (rw (← product_at es l k u) (silent_is (get_or (products es l) k nan) (ranked-at k u) (not-over k u)))
 
 -- ---- the answer at the configuration c, from es, which are its edges
 module _ (c : ℕ) (l : List Float) (es : List ℕ) (v : T (valid c)) (n : length l ≡ nb c) (e : es ≡ edges c) where
   -- what the scan asks: a band, an edge more than bands, and that they rise
   pub asked : (0 < length l) × (length l < length es) × Rising (length l) es 480
-  asked = (omega (arith, n, (sound c v).nb-pos), omega (arith, n, ap length e, (sound c v).edges-65, (sound c v).nb-le), rw (e, n) (bands c v))
+  asked = (omega (arith, n, (sound c v).nb_pos), omega (arith, n, ap length e, (sound c v).edges_65, (sound c v).nb_le), rw (e, n) (bands c v))
 
   -- by the scan's band b, whose product is x
   module _ (all : first passes7 l ≡ length l) (b : ℕ) (x : Float) (eb : b ≡ best (products es l) (length l)) (ex : x ≡ product es l b) where
@@ -141,7 +141,7 @@ module _ (c : ℕ) (l : List Float) (es : List ℕ) (v : T (valid c)) (n : lengt
 
     pub loud-answer : lt none x ≡ true → Loud b x ≡ loudest c l
     unfolding loudest
-    loud-answer h = rw (← e, ne_eqb (first silent l) (length l) (loud-is es l asked.2 all asked.0 (rw value at h))) (λ j. Loud (eb j) (value j))
+    loud-answer h = rw (← e, ne_eqb (first silent l) (length l) (loud_is es l asked.2 all asked.0 (rw value at h))) (λ j. Loud (eb j) (value j))
 
     pub quiet-answer : ((k : ℕ) → T (fits binary32 (get_or l k nan))) → lt none x ≡ false → Quiet ≡ loudest c l
     unfolding loudest

@@ -1,4 +1,7 @@
 // The loudest band of a frame: quiet, or the first band with the greatest energy times number of lines. New in this port.
+
+#![tactic(auto)]
+
 ghost use Rattle.std.specs.Prelude.{◌≡◌, ◌<◌, T, length};
 ghost use Rattle.laws.specs.Lists.{first, Rising};
 ghost use Rattle.laws.specs.Passes.{passes7};
@@ -7,13 +10,13 @@ ghost use Rattle.config.specs.Config.{valid, nb};
 ghost use Rattle.loudest.specs.Loudest.{product, products, loudest, refusal, heard};
 
 // Loud carries the band, and the product that it is ranked by.
-#[derive(Drop)]
+#[derive(Clone, Copy)]
 pub enum Loudest {
     Quiet,
     Loud(usize, f32),
 }
 
-#[derive(Drop)]
+#[derive(Clone, Copy)]
 pub struct Heard {
     pub number: u8,
     pub index: usize,

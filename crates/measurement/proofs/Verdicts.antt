@@ -6,7 +6,7 @@ use Prim.Native.Nat.{ℕ, zero, suc}
 use lib.Dec.{T, eqb, eqb→eq}
 use lib.ListN.{length}
 use lib.Ieee.{Float}
-use borrow.Author.Tests.{not_true, not-false, eq-eqb, ne_eqb}
+use borrow.Author.Tests.{not-true, not-false, eq-eqb, ne_eqb}
 use Rattle.config.specs.Config.{valid, nf, nb}
 use Rattle.refusals.specs.declared.Verdict.{Verdict}
 use Rattle.refusals.specs.Refusals.{on_values}
@@ -18,23 +18,23 @@ module _ (c : ℕ) (x : Lent) {v : Bool} (e : v ≡ valid c) where
   abbrev Says : ℕ → ℕ → Type 0
   Says n i = ◌≡◌ {A = Verdict} (record { number = n; index = i }) (verdict (number c x) x)
 
-  pub says-1 : not v ≡ true → Says 1 0
-  says-1 h = rw (sym e ∙ not_true v h)
+  pub says_1 : not v ≡ true → Says 1 0
+  says_1 h = rw (sym e ∙ not-true v h)
 
   module _ (h : not v ≡ false) where
     ok : valid c ≡ true
     ok = sym e ∙ not-false v h
 
-    pub says-3 : (length x.lines ≡ nf c → ⊥) → Says 3 0
-    says-3 a = rw (ok, ne_eqb _ _ a)
+    pub says_3 : (length x.lines ≡ nf c → ⊥) → Says 3 0
+    says_3 a = rw (ok, ne_eqb _ _ a)
 
     module _ (a : length x.lines ≡ nf c) where
-      pub says-5 : (length x.energies ≡ nb c → ⊥) → Says 5 0
-      says-5 b = rw (ok, eq-eqb _ _ a, ne_eqb _ _ b)
+      pub says_5 : (length x.energies ≡ nb c → ⊥) → Says 5 0
+      says_5 b = rw (ok, eq-eqb _ _ a, ne_eqb _ _ b)
 
       module _ (b : length x.energies ≡ nb c) where
-        pub says-5-too : (length x.peaks ≡ nb c → ⊥) → Says 5 0
-        says-5-too d = rw (ok, eq-eqb _ _ a, eq-eqb _ _ b, ne_eqb _ _ d)
+        pub says_5_too : (length x.peaks ≡ nb c → ⊥) → Says 5 0
+        says_5_too d = rw (ok, eq-eqb _ _ a, eq-eqb _ _ b, ne_eqb _ _ d)
 
         pub says-rest : length x.peaks ≡ nb c → {w : Verdict} → w ≡ on_values x.lines → w ≡ verdict (number c x) x
         says-rest d f = rw (ok, eq-eqb _ _ a, eq-eqb _ _ b, eq-eqb _ _ d) (f ∙ by_values x.lines)
@@ -50,10 +50,10 @@ refused c x v e h = ap (λ (w : Verdict). refused_by w.number w.index x) e ∙ g
 
 -- what a call that is not refused has passed
 pub record Passed (c : ℕ) (x : Lent) : Type 0 where
-  pub is-valid : T (valid c)
-  pub lines-is : length x.lines ≡ nf c
-  pub energies-is : length x.energies ≡ nb c
-  pub peaks-is : length x.peaks ≡ nb c
+  pub is_valid : T (valid c)
+  pub lines_is : length x.lines ≡ nf c
+  pub energies_is : length x.energies ≡ nb c
+  pub peaks_is : length x.peaks ≡ nb c
 
 pub passed : (c : ℕ) (x : Lent) → number c x ≡ 0 → Passed c x
 passed c x e =
@@ -61,7 +61,7 @@ passed c x e =
     let q = went_on (eqb (length x.lines) (nf c)) 2 p.1 in
     let r = went_on (eqb (length x.energies) (nb c)) 4 q.1 in
     let s = went_on (eqb (length x.peaks) (nb c)) 4 r.1 in
-    record { is-valid = p.0; lines-is = eqb→eq _ _ q.0; energies-is = eqb→eq _ _ r.0; peaks-is = eqb→eq _ _ s.0 }
+    record { is_valid = p.0; lines_is = eqb→eq _ _ q.0; energies_is = eqb→eq _ _ r.0; peaks_is = eqb→eq _ _ s.0 }
 
 -- a call that is not refused, and what it has made
 pub made : (c : ℕ) (x : Lent) (v : Verdict) (f : Bool) (es : List Float) (ps : List ℕ) → v ≡ verdict (number c x) x → v.number ≡ 0

@@ -1,6 +1,9 @@
 // The measurement of lines, wherever they come from: the energies and peaks of their bands, and the near-Nyquist flag. It knows no channel and no window.
 // Ported from src/encoder/modified_dct.rs of lc3-codec 0.2.0, and changed: a call of its own, a configuration number picks the bands,
 // each band has its peak, and a call with wrong lengths or lines is refused.
+
+#![tactic(auto)]
+
 ghost use Rattle.std.specs.Prelude.{◌≡◌, T, length};
 ghost use Rattle.config.specs.Config.{valid, nf, nb};
 ghost use Rattle.measurement.specs.Measurement.{energies_of, peaks_of, flag_of, number, verdict, measures, lent, outcome};
@@ -8,7 +11,7 @@ ghost use Rattle.measurement.specs.Measurement.{energies_of, peaks_of, flag_of, 
 use refusals::Verdict;
 
 #[repr(C)]
-#[derive(Drop)]
+#[derive(Clone, Copy)]
 pub struct Measured {
     pub number: u8,
     pub index: usize,

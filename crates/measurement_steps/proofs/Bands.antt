@@ -39,11 +39,11 @@ module _ (es : List ℕ) (ls : List Float) (b i : ℕ) (from : i ≡ get_or es b
       let wide : 1 ≡ get_or es (b + 1) 0 - get_or es b 0 = omega arith in
       λ j. take (wide j) (drop (from j) ls)
 
-  pub lone-energy : energy (take 1 (drop i ls)) ≡ energy (band_of es ls b)
-  lone-energy = ap energy lone
+  pub lone_energy : energy (take 1 (drop i ls)) ≡ energy (band_of es ls b)
+  lone_energy = ap energy lone
 
-  pub lone-place : i ≡ peak_of es ls b
-  lone-place =
+  pub lone_place : i ≡ peak_of es ls b
+  lone_place =
       let none : peak (band_of es ls b) ≡ 0 = ap peak (sym lone) ∙ lone_peak (drop i ls) in
       omega arith
 
@@ -54,12 +54,12 @@ module _ (edges : List ℕ) (b : ℕ) (h : Apart edges b) where
       ap (λ (j : ℕ). get_or edges j 0) e ∙ h (k + 1) (omega arith) ∙ omega arith
 
   module _ (ls : List Float) (k : ℕ) (l : k < 4) where
-    pub apart-energy : energy (take 1 (drop (get_or edges b 0 + k) ls)) ≡ energy (band_of edges ls (b + k))
-    apart-energy = lone-energy edges ls (b + k) (get_or edges b 0 + k) (sym (h k (omega arith))) (next k l)
+    pub apart_energy : energy (take 1 (drop (get_or edges b 0 + k) ls)) ≡ energy (band_of edges ls (b + k))
+    apart_energy = lone_energy edges ls (b + k) (get_or edges b 0 + k) (sym (h k (omega arith))) (next k l)
 
-    pub apart-place : get_or edges b 0 + k ≡ peak_of edges ls (b + k)
-    apart-place = lone-place edges ls (b + k) (get_or edges b 0 + k) (sym (h k (omega arith))) (next k l)
+    pub apart_place : get_or edges b 0 + k ≡ peak_of edges ls (b + k)
+    apart_place = lone_place edges ls (b + k) (get_or edges b 0 + k) (sym (h k (omega arith))) (next k l)
 
   -- they end inside the lines
-  pub apart-inside : (nb n : ℕ) → b + 4 ≤ nb → Rising nb edges n → get_or edges b 0 + 4 ≤ n
-  apart-inside nb n l r = omega (arith, r (b + 3) (omega arith), next 3 (omega arith))
+  pub apart_inside : (nb n : ℕ) → b + 4 ≤ nb → Rising nb edges n → get_or edges b 0 + 4 ≤ n
+  apart_inside nb n l r = omega (arith, r (b + 3) (omega arith), next 3 (omega arith))

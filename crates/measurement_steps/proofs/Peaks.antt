@@ -78,15 +78,15 @@ module _ (w : Float) (ls : List Float) (i : ℕ) (b : Reading) (h : b ≡ up_to 
   begun : (e : Float) → Topped ls i (summed e)
   begun e = let t = topped_of w ls i b h in record { place = t.place; product = t.product }
 
-  pub more-is : (p : Float) → i < length ls → p ≡ square (get_or ls i nan) → higher (summed (add binary32 b.energy (div binary32 p w))) i p ≡ up_to w ls (i + 1)
-  more-is p l e =
+  pub more_is : (p : Float) → i < length ls → p ≡ square (get_or ls i nan) → higher (summed (add binary32 b.energy (div binary32 p w))) i p ≡ up_to w ls (i + 1)
+  more_is p l e =
       let own = ap (λ (x : Float). add binary32 b.energy (div binary32 x w)) e ∙ summed_more (share_by w) zero32 ls i b.energy (summed_of w ls i b h) l in
       comes_to w ls (i + 1) _ own (topped_more ls i (i + 1) refl (begun _) l e)
 
   module _ (s : Float) (p q r t : Float) (l : i + 4 ≤ length ls)
       (ep : p ≡ square (get_or ls i nan)) (eq : q ≡ square (get_or ls (i + 1) nan)) (er : r ≡ square (get_or ls (i + 2) nan)) (et : t ≡ square (get_or ls (i + 3) nan)) where
-    four-tops : Topped ls (i + 4) (higher (higher (higher (higher (summed s) i p) (i + 1) q) (i + 2) r) (i + 3) t)
-    four-tops =
+    four_tops : Topped ls (i + 4) (higher (higher (higher (higher (summed s) i p) (i + 1) q) (i + 2) r) (i + 3) t)
+    four_tops =
         let two = topped_more ls (i + 1) (i + 2) (omega arith) (topped_more ls i (i + 1) refl (begun s) (omega arith) ep) (omega arith) eq in
         topped_more ls (i + 3) (i + 4) (omega arith) (topped_more ls (i + 2) (i + 3) (omega arith) two (omega arith) er) (omega arith) et
 
@@ -95,7 +95,7 @@ module _ (w : Float) (ls : List Float) (i : ℕ) (b : Reading) (h : b ≡ up_to 
     unfolding tab
     four_is e =
         let own : s ≡ sum_of (share_by w) b.energy (take 4 (drop i ls)) = simp (e, ep, eq, er, et, stretch 4 i ls l, add-zero) in
-        comes_to w ls (i + 4) _ (summed_on (share_by w) zero32 ls i 4 (i + 4) b.energy s (summed_of w ls i b h) own refl) four-tops
+        comes_to w ls (i + 4) _ (summed_on (share_by w) zero32 ls i 4 (i + 4) b.energy s (summed_of w ls i b h) own refl) four_tops
 
 -- after all lines
 pub whole_is : (w : Float) (ls : List Float) (n : ℕ) (b : Reading) → b ≡ up_to w ls n → length ls ≡ n → w ≡ of_int binary32 (pos n) → b ≡ whole ls

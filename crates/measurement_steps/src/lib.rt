@@ -1,6 +1,9 @@
 // The steps of a measurement: the energies and peaks of bands, and what the near-Nyquist flag compares. They know no configuration.
 // Ported from src/encoder/modified_dct.rs of lc3-codec 0.2.0, and changed: a function for each step, lengths and tables as arguments,
 // counted loops in place of iterators, and bands of few lines by themselves.
+
+#![tactic(auto)]
+
 ghost use Rattle.std.specs.Prelude.{◌≡◌, true, false, ◌+◌, ◌*◌, ◌/◌, ◌≤◌, ◌<◌, length, get_or, take, drop, Float};
 ghost use Rattle.std.proofs.lemmas.List.Edits.{sets};
 ghost use Rattle.std.specs.Float.{nan};
@@ -10,7 +13,7 @@ ghost use Rattle.measurement_steps.specs.Singles.{Apart, Fours, begun};
 ghost use Rattle.measurement_steps.specs.Peak.{square, peak_of, peaks, higher, up_to, whole, placed};
 
 // What a band has come to: the sum of its lines' shares, the first line with the greatest product, and that product.
-#[derive(Drop)]
+#[derive(Clone, Copy)]
 pub struct Reading {
     pub energy: f32,
     pub peak: usize,

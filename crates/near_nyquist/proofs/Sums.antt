@@ -14,7 +14,7 @@ use lib.Seq.{length-take-le, take_all, get_or-take, get_or-drop}
 use lib.Ieee.{Float, nan, inf, fin, binary32, of_bits, add, lt, fits, up, down}
 use lib.Ieee.Fits.{add-fits}
 use lib.Ieee.Bits.{is_true}
-use borrow.Author.Tests.{le-ltb, lt-ltb, ltb-true, ltb-false, not_true, not-false}
+use borrow.Author.Tests.{le-ltb, lt-ltb, ltb-true, ltb-false, not-true, not-false}
 use Rattle.laws.specs.Numbers.{zero32}
 use Rattle.laws.specs.Lists.{first}
 use Rattle.laws.specs.Passes.{passes7}
@@ -56,15 +56,15 @@ drop_pass n l a k h = rw (get_or-drop n l k nan) (a (n + k) (omega (arith, lengt
 -- r is what acc has come to
 record Sum (acc r : Float) : Type 0 where
   plus : Plus r
-  fits-32 : T (fits binary32 r)
+  fits_32 : T (fits binary32 r)
   over : (b : Float) → Plus b → T (lt b acc) → T (lt b r)
 
 summed : (acc : Float) (ys : List Float) → Plus acc → T (fits binary32 acc) → Pass ys → Sum acc (sum_of (λ x. x) acc ys)
-summed acc [] p t a = record { plus = p; fits-32 = t; over = λ b q h. h }
+summed acc [] p t a = record { plus = p; fits_32 = t; over = λ b q h. h }
 summed acc (y ∷ ys) p t a =
     let g = grows acc y p t (holds (a 0 (omega arith))) in
     let s = summed (add binary32 acc y) ys g.plus (add-fits binary32 acc y) (λ k h. a (suc k) (omega arith)) in
-    record { plus = s.plus; fits-32 = s.fits-32; over = λ b q h. s.over b q (beyond b q p g h) }
+    record { plus = s.plus; fits_32 = s.fits_32; over = λ b q h. s.over b q (beyond b q p g h) }
 
 from_zero : (l : List Float) → Pass l → Sum zero32 (total l)
 unfolding total of_bits
@@ -76,7 +76,7 @@ unfolding total
 goes_on b n l q fit a h =
     let s = from_zero (take n l) (take_pass n l fit a) in
     let whole : sum_of (λ x. x) (total (take n l)) (drop n l) ≡ total l = sym (sum_on (λ x. x) zero32 (take n l) (drop n l)) ∙ ap total (take-append-drop n l) in
-    subst (λ (x : Float). T (lt b x)) whole ((summed (total (take n l)) (drop n l) s.plus s.fits-32 (drop_pass n l a)).over b q h)
+    subst (λ (x : Float). T (lt b x)) whole ((summed (total (take n l)) (drop n l) s.plus s.fits_32 (drop_pass n l a)).over b q h)
 
 -- nothing that has the sign plus is below zero
 not-below : (b : Float) → Plus b → lt b zero32 ≡ false
@@ -136,9 +136,9 @@ module _ (split : ℕ) (es : List Float) (fit : split ≤ length es) where
   unfolding stop
   stop-from = omega arith
 
-  stop-to : stop split es ≤ length es
+  stop_to : stop split es ≤ length es
   unfolding stop
-  stop-to = omega (arith, first-le (under (bound split es)) (running (drop split es)), length_rest)
+  stop_to = omega (arith, first-le (under (bound split es)) (running (drop split es)), length_rest)
 
   -- the sum of the upper bands with band b as the last
   at-band : (b : ℕ) → split ≤ b → b < length es → get_or (running (drop split es)) (b - split) nan ≡ upper_sum split es b
@@ -159,14 +159,14 @@ module _ (split : ℕ) (es : List Float) (fit : split ≤ length es) where
   pub not-before : (b : ℕ) → split ≤ b → b < stop split es → lt (bound split es) (upper_sum split es b) ≡ false
   unfolding stop
   not-before b l h =
-      ap (lt (bound split es)) (sym (at-band b l (omega (arith, stop-to))))
-      ∙ not_true _ (first-before (under (bound split es)) (running (drop split es)) nan (b - split) (omega arith))
+      ap (lt (bound split es)) (sym (at-band b l (omega (arith, stop_to))))
+      ∙ not-true _ (first-before (under (bound split es)) (running (drop split es)) nan (b - split) (omega arith))
 
   bound-plus : Pass es → Plus (bound split es)
   unfolding of_bits
   bound-plus all = times-plus 14 (pos 1) (total (take split es)) (from_zero (take split es) (take_pass split es fit all)).plus
 
   -- and there is one exactly where the flag is set
-  pub as-flagged : Pass es → ltb (stop split es) (length es) ≡ exceeds split es
+  pub as_flagged : Pass es → ltb (stop split es) (length es) ≡ exceeds split es
   unfolding stop exceeds
-  as-flagged all = shifted split _ _ (length es) fit length_rest ∙ settled (bound split es) (drop split es) (bound-plus all) (drop_pass split es all)
+  as_flagged all = shifted split _ _ (length es) fit length_rest ∙ settled (bound split es) (drop split es) (bound-plus all) (drop_pass split es all)

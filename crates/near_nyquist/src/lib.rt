@@ -1,4 +1,7 @@
 // The near-Nyquist flag of energies, sooner: it stops at the first upper band that settles it, and says how many bands it read. New in this port.
+
+#![tactic(auto)]
+
 ghost use Rattle.std.specs.Prelude.{◌≡◌, not, ◌≤◌, T, length};
 ghost use Rattle.std.specs.Float.Ieee.{lt};
 ghost use Rattle.laws.specs.Lists.{first};
@@ -7,7 +10,7 @@ ghost use Rattle.near_nyquist.specs.Sooner.{running, stop, told, refusal, answer
 
 // The answer, and how many bands were read for it.
 #[repr(C)]
-#[derive(Drop)]
+#[derive(Clone, Copy)]
 pub struct Asked {
     pub number: u8,
     pub index: usize,

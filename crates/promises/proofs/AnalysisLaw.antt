@@ -18,7 +18,7 @@ use Rattle.refusals.proofs.Clears.{clearing-map}
 use Rattle.analysis.specs.declared.Channel.{Channel}
 use Rattle.analysis.specs.declared.Cleared.{Cleared}
 use Rattle.analysis_lines.specs.Lines.{time_buffer, mdct, lines_of}
-use Rattle.analysis.specs.Analysis.{Lent, kept_of, silent, cleared_as, cleared, number, framed, frames}
+use Rattle.analysis.specs.Analysis.{Lent, kept_of, silent, cleared_as, cleared, framed, frames}
 use Rattle.promises.specs.Sequence.{Demand3}
 use Rattle.promises.specs.AnalysisChannel.{previous, buffer, given, analysis}
 use Rattle.promises.proofs.Zeros.{take-replicate, drop-replicate}
@@ -44,7 +44,7 @@ unfolding kept_of time_buffer
 frame_kept a x f =
     let c = a.config in
     ap (λ (l : List ℤ). l ++ replicate (300 - (nf c - z c)) (pos 0))
-    (past_of-step (nf c) (z c) (past c a.samples) (past_fits c a.samples f.is-valid) x.input f.length-is)
+    (past_of-step (nf c) (z c) (past c a.samples) (past_fits c a.samples f.is_valid) x.input f.length-is)
 
 -- where the array's past is what the definition reads of the frame before, the lines are the definition's
 reads : (c : ℕ) (s : List ℤ) (f : Option (List ℤ)) → T (valid c) → past c s ≡ drop (z c) (previous c f)
@@ -77,13 +77,13 @@ lawful =
       rest = λ c x. cond (not (eqb (length x.lines) (nf c))) 4 0;
       number_is = λ c x. refl;
       framed = framed;
-      framed-by = λ a x. refl;
+      framed_by = λ a x. refl;
       frame_refused = λ n a x. refl;
       frame-gives = λ a x. refl;
       frame-config = λ a x. refl;
       frame_kept = frame_kept;
       none_read = λ c v. reads c (keeps c none) none v (read_none c v);
-      some_read = λ c f h. reads c (keeps c (some f)) (some f) h.is-valid (read_some c f h);
+      some_read = λ c f h. reads c (keeps c (some f)) (some f) h.is_valid (read_some c f h);
     }
 
 pub analysis_demand3 : Demand3 analysis

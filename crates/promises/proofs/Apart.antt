@@ -82,8 +82,8 @@ module _ (a : Channel) (x : combined.Lent) (p : List ℕ) where
   then zero = fits
   then (suc n) = suc n
 
-  combined-is : combined.number c x ≡ then (number c own)
-  combined-is = go (not (valid c)) (not (eqb (length x.input) (nf c))) (not (eqb (length x.lines) (nf c)))
+  combined_is : combined.number c x ≡ then (number c own)
+  combined_is = go (not (valid c)) (not (eqb (length x.input) (nf c))) (not (eqb (length x.lines) (nf c)))
     where
       go : (p q r : Bool) → cond p 1 (cond q 3 (cond r 4 fits)) ≡ then (cond p 1 (cond q 3 (cond r 4 0)))
       go true q r = refl
@@ -91,9 +91,9 @@ module _ (a : Channel) (x : combined.Lent) (p : List ℕ) where
       go false false true = refl
       go false false false = refl
 
-  old-is : (o : List ℕ) → old a x o ≡ before o (then (number c own))
+  old_is : (o : List ℕ) → old a x o ≡ before o (then (number c own))
   unfolding combined.frames
-  old-is o = ap (before o) combined-is
+  old_is o = ap (before o) combined_is
 
   -- where the first call is accepted, the second's configuration and lines are as they have to be
   abbrev last : ℕ
@@ -107,18 +107,18 @@ module _ (a : Channel) (x : combined.Lent) (p : List ℕ) where
 
   in_turn_lem : (in_turn a x p).0.number ≡ 0 → in_turn a x p ≡ old a x (peaks_of c lines)
   unfolding frames
-  in_turn_lem h = go (number c own) h ∙ sym (old-is (peaks_of c lines))
+  in_turn_lem h = go (number c own) h ∙ sym (old_is (peaks_of c lines))
     where
       go : (n : ℕ) → (turned n).0.number ≡ 0 → turned n ≡ before (peaks_of c lines) (then n)
       go zero h =
           let e = sym (tells c next) ∙ h in
           ap (λ (m : measurement.Given). (joined lines m, (framed 0 a own).1)) (by_number c next 0 e)
-          ∙ ap (before (peaks_of c lines)) (sym (ap (λ (b : Bool). cond (not b) 5 0) (eq-eqb _ _ (verdicts.passed c next e).energies-is)))
+          ∙ ap (before (peaks_of c lines)) (sym (ap (λ (b : Bool). cond (not b) 5 0) (eq-eqb _ _ (verdicts.passed c next e).energies_is)))
       go (suc n) h = absurd (omega arith)
 
-  first-refused : ((frames a own).0.number ≡ 0 → ⊥) → in_turn a x p ≡ old a x p
+  first_refused : ((frames a own).0.number ≡ 0 → ⊥) → in_turn a x p ≡ old a x p
   unfolding frames
-  first-refused h = go (number c own) h ∙ sym (old-is p)
+  first_refused h = go (number c own) h ∙ sym (old_is p)
     where
       go : (n : ℕ) → ((framed n a own).0.number ≡ 0 → ⊥) → turned n ≡ before p (then n)
       go zero h = absurd (h refl)
@@ -129,10 +129,10 @@ module _ (a : Channel) (x : combined.Lent) (p : List ℕ) where
   before-number (suc n) = refl
 
   old-number : (old a x p).0.number ≡ then (number c own)
-  old-number = ap (λ (g : Given × Channel). g.0.number) (old-is p) ∙ before-number (then (number c own))
+  old-number = ap (λ (g : Given × Channel). g.0.number) (old_is p) ∙ before-number (then (number c own))
 
-  not-5 : number c own ≡ 5 → ⊥
-  not-5 =
+  not_5 : number c own ≡ 5 → ⊥
+  not_5 =
       apart_from 5 1 _ (not (valid c)) (λ z. omega arith)
       (apart_from 5 3 _ (not (eqb (length x.input) (nf c))) (λ z. omega arith)
       (apart_from 5 4 0 (not (eqb (length x.lines) (nf c))) (λ z. omega arith) (λ z. omega arith)))
@@ -147,15 +147,15 @@ module _ (a : Channel) (x : combined.Lent) (p : List ℕ) where
   late true m e = refl
   late false m e = absurd (omega arith)
 
-  second-refused : (old a x p).0.number ≡ 5 → in_turn a x p ≡ unmeasured a x p
-  second-refused h = go (number c own) refl (sym old-number ∙ h)
+  second_refused : (old a x p).0.number ≡ 5 → in_turn a x p ≡ unmeasured a x p
+  second_refused h = go (number c own) refl (sym old-number ∙ h)
     where
       go : (n : ℕ) → number c own ≡ n → then n ≡ 5 → in_turn a x p ≡ unmeasured a x p
       go zero e h = five e (second-number e ∙ late (not (eqb (length x.energies) (nb c))) _ h)
-      go (suc n) e h = absurd (not-5 (e ∙ h))
+      go (suc n) e h = absurd (not_5 (e ∙ h))
 
-  peaks-refused : (old a x p).0.number ≡ 0 → (length p ≡ nb c → ⊥) → in_turn a x p ≡ unmeasured a x p
-  peaks-refused h d = go (number c own) refl (sym old-number ∙ h)
+  peaks_refused : (old a x p).0.number ≡ 0 → (length p ≡ nb c → ⊥) → in_turn a x p ≡ unmeasured a x p
+  peaks_refused h d = go (number c own) refl (sym old-number ∙ h)
     where
       either : (b : Bool) → ◌≡◌ {A = ℕ} (cond b 5 5) 5
       either true = refl
@@ -165,9 +165,9 @@ module _ (a : Channel) (x : combined.Lent) (p : List ℕ) where
       go zero e h = five e (second-number e ∙ ap (λ (b : Bool). cond (not (eqb (length x.energies) (nb c))) 5 (cond (not b) 5 last)) (ne_eqb (length p) (nb c) d) ∙ either (not (eqb (length x.energies) (nb c))))
       go (suc n) e h = absurd (omega arith)
 
-  accepts-alike : Each Sample a.samples → Each Sample x.input → length p ≡ nb c → (in_turn a x p).0.number ≡ (old a x p).0.number
+  accepts_alike : Each Sample a.samples → Each Sample x.input → length p ≡ nb c → (in_turn a x p).0.number ≡ (old a x p).0.number
   unfolding frames
-  accepts-alike s i l = go (number c own) refl ∙ sym old-number
+  accepts_alike s i l = go (number c own) refl ∙ sym old-number
     where
       go : (n : ℕ) → number c own ≡ n → (turned n).0.number ≡ then n
       go zero e =
@@ -194,28 +194,28 @@ unfolding measures row rows half edges edge_rows first passes6 tab energies_of e
 apart =
     record {
       in_turn_lem = in_turn_lem;
-      lines-pass = accepted Pass pass_each;
-      lines-pass-after = from_clear Pass (accepted Pass pass_each);
+      lines_pass = accepted Pass pass_each;
+      lines_pass_after = from_clear Pass (accepted Pass pass_each);
       never_6 = accepted Never6 (λ a v s x i e p. never_6 a.config (lines_of a.config (channel_past a) x) e p (pass_each a v s x i));
-      accepts-alike = λ a s x i p l. accepts-alike a x p s i l;
-      first-refused = first-refused;
-      second-refused = second-refused;
-      peaks-refused = peaks-refused;
-      by-definition = λ c a e qs x p n.
+      accepts_alike = λ a s x i p l. accepts_alike a x p s i l;
+      first_refused = first_refused;
+      second_refused = second_refused;
+      peaks_refused = peaks_refused;
+      by_definition = λ c a e qs x p n.
           let d = after analysis a qs in
           let r = recall analysis (fresh c) qs in
           let t = taken d x p n in
           let same = configured analysis lawful c a e qs in
           let zero_is = ap (λ (m : ℕ). number m (own d x p)) (sym same) ∙ t.0 in
-          let gives-0 = analysis_demand3.by-definition c a e qs (own d x p) ∙ ap (λ (m : ℕ). gives analysis m r.config r.before (own d x p)) zero_is in
-          t.1 ∙ ap₂ paired same (ap (λ (g : frame.Given). g.lines) gives-0);
+          let gives_0 = analysis_demand3.by_definition c a e qs (own d x p) ∙ ap (λ (m : ℕ). gives analysis m r.config r.before (own d x p)) zero_is in
+          t.1 ∙ ap₂ paired same (ap (λ (g : frame.Given). g.lines) gives_0);
       agreement = λ a b e f g o s t qs rs r x y p q i m n.
           let h = analysis_demand3.agreement a b e f g o s t qs rs r in
           let tx = taken (after analysis a (call f ∷ qs)) x p m in
           let ty = taken (after analysis b (call g ∷ rs)) y q n in
           tx.1 ∙ ap₂ paired h.configs (ap (λ (g : frame.Given). g.lines) (h.answers _ _ i (is_0 _ tx.0) (is_0 _ ty.0))) ∙ sym ty.1;
-      at-the-bound = refl;
-      above-it = refl;
-      tested-last = refl;
-      own-flag = refl;
+      at_the_bound = refl;
+      above_it = refl;
+      tested_last = refl;
+      own_flag = refl;
     }

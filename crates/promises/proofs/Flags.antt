@@ -9,4 +9,4 @@ use Rattle.promises.specs.Flags.{Flags}
 
 pub flags : Flags
 unfolding flag_of exceeds total row rows of_bits add mul lt
-flags = record { at-the-edge = refl; above-it = refl }
+flags = record { at_the_edge = refl; above_it = refl }

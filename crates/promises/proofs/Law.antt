@@ -9,11 +9,11 @@ use lib.Dec.{T, eqb, eqb→eq}
 use lib.ListN.{length}
 use Rattle.config.specs.Config.{valid}
 use Rattle.refusals.specs.Refusals.{clearing}
-use Rattle.promises.specs.Sequence.{Kind, Call, clear, frame, Past, fresh, clears, accepts, handed_on, after, recalled, recall, gives, defined, refuses, Idle, Shared, over, both, one-refused, other-refused, Agree, Demand3}
+use Rattle.promises.specs.Sequence.{Kind, Call, clear, frame, Past, fresh, clears, accepts, handed_on, after, recalled, recall, gives, defined, refuses, Idle, Shared, over, both, one_refused, other_refused, Agree, Demand3}
 
 -- f is the own list of a frame that configuration c accepts, where frames have `size c` places
 pub record Fits {A : Type 0} (size : ℕ → ℕ) (c : ℕ) (f : List A) : Type 0 where
-  pub is-valid : T (valid c)
+  pub is_valid : T (valid c)
   pub length-is : length f ≡ size c
 
 -- What a kind owes of a single call. `keeps c p` is the array after the frame p, `answer c s f` what an accepted call gives on the array s.
@@ -30,7 +30,7 @@ pub record Lawful (k : Kind) : Type 1 where
   pub rest : ℕ → k.Lent → ℕ
   pub number_is : (c : ℕ) (x : k.Lent) → k.number c x ≡ cond (not (valid c)) 1 (cond (not (eqb (length (k.own x)) (size c))) 3 (rest c x))
   pub framed : ℕ → k.Channel → k.Lent → k.Given × k.Channel
-  pub framed-by : (a : k.Channel) (x : k.Lent) → k.frames a x ≡ framed (k.number (k.config a) x) a x
+  pub framed_by : (a : k.Channel) (x : k.Lent) → k.frames a x ≡ framed (k.number (k.config a) x) a x
   pub frame_refused : (n : ℕ) (a : k.Channel) (x : k.Lent) → framed (suc n) a x ≡ (k.refusal (suc n) x, a)
   pub frame-gives : (a : k.Channel) (x : k.Lent) → (framed 0 a x).0 ≡ answer (k.config a) (k.kept a) (k.own x)
   pub frame-config : (a : k.Channel) (x : k.Lent) → k.config (framed 0 a x).1 ≡ k.config a
@@ -68,15 +68,15 @@ module _ (k : Kind) (l : Lawful k) where
   fits c x t = go (valid c) (λ v. v) (eqb (length (k.own x)) (l.size c)) (eqb→eq (length (k.own x)) (l.size c)) (subst (λ (n : ℕ). T (eqb n 0)) (l.number_is c x) t)
     where
       go : (v : Bool) → (T v → T (valid c)) → (b : Bool) → (T b → length (k.own x) ≡ l.size c) → T (eqb (cond (not v) 1 (cond (not b) 3 (l.rest c x))) 0) → Fits l.size c (k.own x)
-      go true v true e t = record { is-valid = v tt; length-is = e tt }
+      go true v true e t = record { is_valid = v tt; length-is = e tt }
       go true v false e t = absurd t
       go false v b e t = absurd t
 
   pub taken : (a : k.Channel) (x : k.Lent) → T (accepts k (k.config a) x) → k.frames a x ≡ l.framed 0 a x
-  taken a x t = l.framed-by a x ∙ ap (λ (n : ℕ). l.framed n a x) (eqb→eq (k.number (k.config a) x) 0 t)
+  taken a x t = l.framed_by a x ∙ ap (λ (n : ℕ). l.framed n a x) (eqb→eq (k.number (k.config a) x) 0 t)
 
   unmoved : (a : k.Channel) (x : k.Lent) → T (not (accepts k (k.config a) x)) → (k.frames a x).1 ≡ a
-  unmoved a x t = ap (λ (r : k.Given × k.Channel). r.1) (l.framed-by a x) ∙ go (k.number (k.config a) x) t
+  unmoved a x t = ap (λ (r : k.Given × k.Channel). r.1) (l.framed_by a x) ∙ go (k.number (k.config a) x) t
     where
       go : (n : ℕ) → T (not (eqb n 0)) → (l.framed n a x).1 ≡ a
       go zero t = absurd t
@@ -99,7 +99,7 @@ module _ (k : Kind) (l : Lawful k) where
 
   answers : (a : k.Channel) (p : Past k.Value) → Holds a p → (x : k.Lent) → (k.frames a x).0 ≡ defined k p.config p.before x
   answers a p h x =
-      ap (λ (r : k.Given × k.Channel). r.0) (l.framed-by a x)
+      ap (λ (r : k.Given × k.Channel). r.0) (l.framed_by a x)
       ∙ ap (λ (c : ℕ). (l.framed (k.number c x) a x).0) h.config
       ∙ go (k.number p.config x)
     where
@@ -123,11 +123,11 @@ module _ (k : Kind) (l : Lawful k) where
   unfolding pick
   handed_on-old a c n = ap (pick a) (clears-none c n)
 
-  holds-new : (c : ℕ) → T (valid c) → Holds (l.new c) (fresh c)
-  holds-new c v = record { config = l.new-config c; kept = l.new-kept c; good = v }
+  holds_new : (c : ℕ) → T (valid c) → Holds (l.new c) (fresh c)
+  holds_new c v = record { config = l.new-config c; kept = l.new-kept c; good = v }
 
-  holds-taken : (a : k.Channel) (x : k.Lent) → T (accepts k (k.config a) x) → Holds (k.frames a x).1 (record { config = k.config a; before = some (k.own x) })
-  holds-taken a x t =
+  holds_taken : (a : k.Channel) (x : k.Lent) → T (accepts k (k.config a) x) → Holds (k.frames a x).1 (record { config = k.config a; before = some (k.own x) })
+  holds_taken a x t =
       let f = fits (k.config a) x t in
       subst (λ (r : k.Given × k.Channel). Holds r.1 (record { config = k.config a; before = some (k.own x) })) (sym (taken a x t))
       (record { config = l.frame-config a x; kept = l.frame_kept a x f; good = f })
@@ -137,7 +137,7 @@ module _ (k : Kind) (l : Lawful k) where
   step a p h (clear c) = go (valid c) (λ v. v) (λ v. v)
     where
       go : (b : Bool) → (T b → T (valid c)) → (T (not b) → T (not (valid c))) → Holds (handed_on k a (clear c)) (elim b [ true ↦ fresh c | false ↦ p ])
-      go true v n = subst (λ (d : k.Channel). Holds d (fresh c)) (sym (handed_on-new a c (v tt))) (holds-new c (v tt))
+      go true v n = subst (λ (d : k.Channel). Holds d (fresh c)) (sym (handed_on-new a c (v tt))) (holds_new c (v tt))
       go false v n = subst (λ (d : k.Channel). Holds d p) (sym (handed_on-old a c (n tt))) h
   step a p h (frame x) = go (accepts k p.config x) (λ t. t) (λ t. t)
     where
@@ -146,7 +146,7 @@ module _ (k : Kind) (l : Lawful k) where
 
       go : (b : Bool) → (T b → T (accepts k p.config x)) → (T (not b) → T (not (accepts k p.config x)))
           → Holds (k.frames a x).1 (elim b [ true ↦ record { config = p.config; before = some (k.own x) } | false ↦ p ])
-      go true t n = subst (λ (c : ℕ). Holds (k.frames a x).1 (record { config = c; before = some (k.own x) })) h.config (holds-taken a x (back (λ b. b) (t tt)))
+      go true t n = subst (λ (c : ℕ). Holds (k.frames a x).1 (record { config = c; before = some (k.own x) })) h.config (holds_taken a x (back (λ b. b) (t tt)))
       go false t n = subst (λ (d : k.Channel). Holds d p) (sym (unmoved a x (back not (n tt)))) h
 
   steps : (a : k.Channel) (p : Past k.Value) → Holds a p → (qs : List (Call k.Lent)) → Holds (after k a qs) (recall k p qs)
@@ -167,12 +167,12 @@ module _ (k : Kind) (l : Lawful k) where
   accepted-clear c a e = go (valid c) (λ v. v) (λ v. v)
     where
       go : (b : Bool) → (T b → T (valid c)) → (T (not b) → T (not (valid c))) → Holds a (fresh c)
-      go true v n = subst (λ (d : k.Channel). Holds d (fresh c)) (some-injective (l.new c) a (sym (clears-new c (v tt)) ∙ e)) (holds-new c (v tt))
+      go true v n = subst (λ (d : k.Channel). Holds d (fresh c)) (some-injective (l.new c) a (sym (clears-new c (v tt)) ∙ e)) (holds_new c (v tt))
       go false v n = absurd (none-ne-some a (sym (clears-none c (n tt)) ∙ e))
 
   -- what holds the same, and refused calls after it, gives by the definition
-  idle-answers : (a : k.Channel) (p : Past k.Value) → Holds a p → (qs : List (Call k.Lent)) → Idle k p.config qs → (x : k.Lent) → (k.frames (after k a qs) x).0 ≡ defined k p.config p.before x
-  idle-answers a p h qs i x =
+  idle_answers : (a : k.Channel) (p : Past k.Value) → Holds a p → (qs : List (Call k.Lent)) → Idle k p.config qs → (x : k.Lent) → (k.frames (after k a qs) x).0 ≡ defined k p.config p.before x
+  idle_answers a p h qs i x =
       ap (λ (d : k.Channel). (k.frames d x).0) (idle a qs (subst (λ (c : ℕ). Idle k c qs) (sym h.config) i)) ∙ answers a p h x
 
   -- two channels that hold the same agree, and go on to while they share their accepted frames
@@ -193,7 +193,7 @@ module _ (k : Kind) (l : Lawful k) where
   takes : (a : k.Channel) (c : ℕ) → k.config a ≡ c → (f : k.Lent) (own : List k.Value) → k.own f ≡ own → T (accepts k c f) → Holds (k.frames a f).1 (record { config = c; before = some own })
   takes a c e f own o t =
       subst (λ (m : List k.Value). Holds (k.frames a f).1 (record { config = c; before = some m })) o
-      (subst (λ (d : ℕ). Holds (k.frames a f).1 (record { config = d; before = some (k.own f) })) e (holds-taken a f (subst (λ (d : ℕ). T (accepts k d f)) (sym e) t)))
+      (subst (λ (d : ℕ). Holds (k.frames a f).1 (record { config = d; before = some (k.own f) })) e (holds_taken a f (subst (λ (d : ℕ). T (accepts k d f)) (sym e) t)))
 
   stays_at : (a : k.Channel) (c : ℕ) → k.config a ≡ c → (q : Call k.Lent) → T (refuses k c q) → handed_on k a q ≡ a
   stays_at a c e q t = stays a q (subst (λ (d : ℕ). T (refuses k d q)) (sym e) t)
@@ -205,9 +205,9 @@ module _ (k : Kind) (l : Lawful k) where
       shared c r (k.frames a f).1 (k.frames b g).1 (some (k.own g))
       (takes a c h.config f (k.own g) e s)
       (takes b c j.config g (k.own g) refl t)
-  shared c (one-refused {q} {qs} {rs} t r) a b p h j =
+  shared c (one_refused {q} {qs} {rs} t r) a b p h j =
       subst (λ (d : k.Channel). Agree k (after k d qs) (after k b rs)) (sym (stays_at a c h.config q t)) (shared c r a b p h j)
-  shared c (other-refused {q} {qs} {rs} t r) a b p h j =
+  shared c (other_refused {q} {qs} {rs} t r) a b p h j =
       subst (λ (d : k.Channel). Agree k (after k a qs) (after k d rs)) (sym (stays_at b c j.config q t)) (shared c r a b p h j)
 
   pub configured : (c : ℕ) (a : k.Channel) → clears k c ≡ some a → (qs : List (Call k.Lent)) → k.config (after k a qs) ≡ (recall k (fresh c) qs).config
@@ -216,9 +216,9 @@ module _ (k : Kind) (l : Lawful k) where
   pub demand3 : Demand3 k
   demand3 =
       record {
-        by-definition = λ c a e qs x. answers (after k a qs) (recall k (fresh c) qs) (steps a (fresh c) (accepted-clear c a e) qs) x;
-        first = λ a c v qs i x. ap (λ (d : k.Channel). (k.frames (after k d qs) x).0) (handed_on-new a c v) ∙ idle-answers (l.new c) (fresh c) (holds-new c v) qs i x;
-        second = λ a f t qs i x. idle-answers (k.frames a f).1 (record { config = k.config a; before = some (k.own f) }) (holds-taken a f t) qs i x;
+        by_definition = λ c a e qs x. answers (after k a qs) (recall k (fresh c) qs) (steps a (fresh c) (accepted-clear c a e) qs) x;
+        first = λ a c v qs i x. ap (λ (d : k.Channel). (k.frames (after k d qs) x).0) (handed_on-new a c v) ∙ idle_answers (l.new c) (fresh c) (holds_new c v) qs i x;
+        second = λ a f t qs i x. idle_answers (k.frames a f).1 (record { config = k.config a; before = some (k.own f) }) (holds_taken a f t) qs i x;
         refused = idle;
         agreement = λ a b e f g o s t qs rs r.
             shared (k.config a) r (k.frames a f).1 (k.frames b g).1 (some (k.own g))

@@ -39,13 +39,13 @@ use Rattle.promises.specs.Loudest.{Ranking}
 module _ (c : ℕ) (v : T (valid c)) (b : ℕ) (h : b < nb c) where
   lines : (l : List Float) → length l ≡ nf c → width (edges c) b ≡ length (band_of (edges c) l b)
   unfolding band_of
-  lines l n = sym (length-take-le (width (edges c) b) (drop (get_or (edges c) b 0) l) (omega (arith, n, length-drop (get_or (edges c) b 0) l, (sound c v).rising b h, (sound c v).ne-le)))
+  lines l n = sym (length-take-le (width (edges c) b) (drop (get_or (edges c) b 0) l) (omega (arith, n, length-drop (get_or (edges c) b 0) l, (sound c v).rising b h, (sound c v).ne_le)))
 
   exact : HasValue (of_int binary32 (pos (width (edges c) b))) false (width (edges c) b) 1
   exact = as_f32 (edges c) (nb c) (bands c v) b h
 
-  same-zero : (l : List Float) → T (fits binary32 (get_or l b nan)) → passes7 (get_or l b nan) ≡ true → silent (product (edges c) l b) ≡ silent (get_or l b nan)
-  same-zero l f p =
+  same_zero : (l : List Float) → T (fits binary32 (get_or l b nan)) → passes7 (get_or l b nan) ≡ true → silent (product (edges c) l b) ≡ silent (get_or l b nan)
+  same_zero l f p =
       let x = get_or l b nan in
       ⊎_elim
       (λ z. times_zero x _ _ exact z ∙ sym z)
@@ -69,7 +69,7 @@ whole_size n (fin s m e) v = record { fact = le_of_eq (ap (λ (k : ℕ). k * 2 ^
 
 module _ (c : ℕ) (v : T (valid c)) where
   few : (b : ℕ) → b < nb c → width (edges c) b ≤ 64
-  few b h = leb→le (width (edges c) b) 64 (at (slim c) (edges c) (each (λ i. every (slim i) 0 (edges i)) test c v) b (omega (arith, (sound c v).edges-65, (sound c v).nb-le)))
+  few b h = leb→le (width (edges c) b) 64 (at (slim c) (edges c) (each (λ i. every (slim i) 0 (edges i)) test c v) b (omega (arith, (sound c v).edges_65, (sound c v).nb_le)))
 
   -- 2 ^ 121 times 64 is below the greatest f32
   finite-product : (b : ℕ) → b < nb c → (x : Float) → Within (2 ^ 121) 1 x → Finite (mul binary32 x (of_int binary32 (pos (width (edges c) b))))
@@ -89,15 +89,15 @@ ranking =
     record {
       lines = λ c v l n b h. lines c v b h l n;
       exact = exact;
-      zero = λ c v l b h f p. same-zero c v b h l f p;
+      zero = λ c v l b h f p. same_zero c v b h l f p;
       smallest = refl;
       zeros = refl;
       overflow = refl;
-      two-infinities = refl;
-      never-infinite = finite-products;
-      config-first = λ l. refl;
+      two_infinities = refl;
+      never_infinite = finite-products;
+      config_first = λ l. refl;
       sixty = refl;
-      sixty-four = refl;
-      length-first = refl;
-      two-nans = refl;
+      sixty_four = refl;
+      length_first = refl;
+      two_nans = refl;
     }

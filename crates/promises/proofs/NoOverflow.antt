@@ -28,7 +28,7 @@ use Rattle.analysis.specs.Analysis.{Lent, Given, kept_of, channel_past, cleared_
 use Rattle.measurement.specs.Measurement as measurement
 use Rattle.measurement.specs.Measurement.{energies_of, measures}
 use Rattle.measurement.proofs.Verdicts as verdicts
-use Rattle.analysis.proofs.Frames.{says-0, passed}
+use Rattle.analysis.proofs.Frames.{says_0, passed}
 use Rattle.synthesis.specs.declared.Channel as synthesis_channel
 use Rattle.synthesis.specs.Synthesis as synthesis_calls
 use Rattle.synthesis.proofs.Frames as synthesis_frames
@@ -165,7 +165,7 @@ takes : (a : Channel) → T (valid a.config) → (x : List ℤ) → length x ≡
 unfolding frames
 takes a v x e =
     let c = a.config in
-    ap (λ (n : ℕ). framed n a (lends a x)) (sym (says-0 c (lends a x) refl (ap not (is_true (valid c) v)) e (length-replicate (nf c) zero32)))
+    ap (λ (n : ℕ). framed n a (lends a x)) (sym (says_0 c (lends a x) refl (ap not (is_true (valid c) v)) e (length-replicate (nf c) zero32)))
 
 measure_takes : (a : Channel) → T (valid a.config) → Held a → (x : List ℤ) → Each Sample x → measures a.config (next a x) ≡ measurement.measured 0 a.config (next a x)
 unfolding measures lines_of
@@ -230,7 +230,7 @@ module _ (a : synthesis_channel.Channel) (x : synthesis_calls.Lent) (h : Kept a)
   by_number zero e =
       let c = a.config in
       let p = synthesis_frames.passed c x e in
-      each_append (memory-bound c p.is-valid x.lines p.lines-is (passing c x e)) (each-replicate (300 - (nf c - z c)) zero32 (zero_size 223 1))
+      each_append (memory-bound c p.is_valid x.lines p.lines_is (passing c x e)) (each-replicate (300 - (nf c - z c)) zero32 (zero_size 223 1))
   by_number (suc n) e = h
 
   sampled : (n : ℕ) → synthesis_calls.number a.config x ≡ n → (synthesis_calls.framed n a x).0.number ≡ 0 → Each Finite (synthesis_calls.framed n a x).0.samples
@@ -238,7 +238,7 @@ module _ (a : synthesis_channel.Channel) (x : synthesis_calls.Lent) (h : Kept a)
       let c = a.config in
       let p = synthesis_frames.passed c x e in
       let past = each-tab (nf c - z c) (λ k. get_or a.memory k zero32) (λ k l. each_or zero32 k (zero_size 223 1) h) in
-      each_weaken size_finite (samples-bound c p.is-valid _ x.lines past p.lines-is (passing c x e))
+      each_weaken size_finite (samples-bound c p.is_valid _ x.lines past p.lines_is (passing c x e))
   sampled (suc n) e f = absurd (omega arith)
 
 frame_kept : (a : synthesis_channel.Channel) (x : synthesis_calls.Lent) → Unit {0} → Kept a → Kept (synthesis_calls.frames a x).1
@@ -261,13 +261,13 @@ unfolding synthesis_calls.frames
 no_overflow =
     record {
       lines = from_clear Lines (accepted Lines lines-each);
-      lines-anywhere = accepted Lines lines-each;
+      lines_anywhere = accepted Lines lines-each;
       energies = from_clear Energies (accepted Energies energies-each);
-      energies-anywhere = accepted Energies energies-each;
-      heard-anywhere = accepted Hears hears_each;
+      energies_anywhere = accepted Energies energies-each;
+      heard_anywhere = accepted Hears hears_each;
       listed = along_file;
       measured = passing_7;
-      measured-heard = λ c v l e a. hears c v l (passing_7 c v l e a);
+      measured_heard = λ c v l e a. hears c v l (passing_7 c v l e a);
       samples = λ c a e qs x n. sampled (after synthesis a qs) x (after_kept c a e qs) (synthesis_calls.number (after synthesis a qs).config x) refl n;
       memory = λ c a e qs. each_weaken size_finite (after_kept c a e qs);
     }

@@ -61,9 +61,9 @@ pub papers : Papers
 unfolding heard loudest header_of record_of log.header_of log.call_taken log.fields log.field_taken log.field_of log.rows
 papers =
     record {
-      no-config = λ c l v. rw (lt-leb c largest v);
-      bad-energies = λ c l v n. rw (le-leb c largest v, ne_eqb (length l) (nb c) n);
-      bad-energy = λ c l v n i. rw (le-leb c largest v, eq-eqb (length l) (nb c) n, ne_eqb (first passes7 l) (length l) (λ e. omega arith));
+      no_config = λ c l v. rw (lt-leb c largest v);
+      bad_energies = λ c l v n. rw (le-leb c largest v, ne_eqb (length l) (nb c) n);
+      bad_energy = λ c l v n i. rw (le-leb c largest v, eq-eqb (length l) (nb c) n, ne_eqb (first passes7 l) (length l) (λ e. omega arith));
       quiet = λ c l v n z.
           rw (
             le-leb c largest v,
@@ -72,21 +72,21 @@ papers =
             eq-eqb (first silent l) (length l) (sym (first-none silent l nan z)),
           );
       loud = λ c l v n p z. rw (le-leb c largest v, eq-eqb (length l) (nb c) n, eq-eqb (first passes7 l) (length l) p, ne_eqb (first silent l) (length l) (λ e. omega arith));
-      short-file = λ f h. rw (lt-ltb (length f) 6 h);
-      bad-mark = λ f h n. rw (le-ltb (length f) 6 h, not-marked _ _ _ f (omega arith) n);
-      bad-version = λ f h e n. rw (le-ltb (length f) 6 h, is_marked _ _ _ f e, ne_eqb (short_at f 3) 1 n);
-      bad-config = λ f h e v c. rw (le-ltb (length f) 6 h, is_marked _ _ _ f e, eq-eqb (short_at f 3) 1 v, lt-leb (byte f 5) largest c);
+      short_file = λ f h. rw (lt-ltb (length f) 6 h);
+      bad_mark = λ f h n. rw (le-ltb (length f) 6 h, not-marked _ _ _ f (omega arith) n);
+      bad_version = λ f h e n. rw (le-ltb (length f) 6 h, is_marked _ _ _ f e, ne_eqb (short_at f 3) 1 n);
+      bad_config = λ f h e v c. rw (le-ltb (length f) 6 h, is_marked _ _ _ f e, eq-eqb (short_at f 3) 1 v, lt-leb (byte f 5) largest c);
       good = λ f h e v c. rw (le-ltb (length f) 6 h, is_marked _ _ _ f e, eq-eqb (short_at f 3) 1 v, le-leb (byte f 5) largest c, v);
-      at-end = λ c v. rw (le-leb c largest v);
+      at_end = λ c v. rw (le-leb c largest v);
       cut = λ c f v some few. rw (le-leb c largest v, ne_eqb (length f) 0 (λ e. omega arith), lt-ltb (length f) (2 * nf c) few);
       whole = λ c f v room.
           let s = sound c (le→leb c largest v) in
           rw (le-leb c largest v, ne_eqb (length f) 0 (λ e. omega (arith, s.even, s.half_pos)), le-ltb (length f) (2 * nf c) room);
       astray = λ c f v. rw (lt-leb c largest v);
-      short-log = λ b h. rw (lt-ltb (length b) 5 h);
-      bad-log-mark = λ b h n. rw (le-ltb (length b) 5 h, not-marked _ _ _ b (omega arith) n);
-      bad-log-version = λ b h e n. rw (le-ltb (length b) 5 h, is_marked _ _ _ b e, version b, ne_eqb (short_at b 3) 3 n);
-      good-log = λ b h e v. rw (le-ltb (length b) 5 h, is_marked _ _ _ b e, version b, eq-eqb (short_at b 3) 3 v);
-      whole-call = λ c b. rw (le-leb 1 (length (c ∷ b)) (omega arith));
-      cut-call = refl;
+      short_log = λ b h. rw (lt-ltb (length b) 5 h);
+      bad_log_mark = λ b h n. rw (le-ltb (length b) 5 h, not-marked _ _ _ b (omega arith) n);
+      bad_log_version = λ b h e n. rw (le-ltb (length b) 5 h, is_marked _ _ _ b e, version b, ne_eqb (short_at b 3) 3 n);
+      good_log = λ b h e v. rw (le-ltb (length b) 5 h, is_marked _ _ _ b e, version b, eq-eqb (short_at b 3) 3 v);
+      whole_call = λ c b. rw (le-leb 1 (length (c ∷ b)) (omega arith));
+      cut_call = refl;
     }

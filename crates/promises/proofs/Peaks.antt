@@ -49,7 +49,7 @@ module _ (c : ℕ) (v : T (valid c)) (l : List Float) (long : length l ≡ nf c)
 
   -- its edges lie within the frame, and it has a line
   lies : (from < to) × (to ≤ length l)
-  lies = let s = sound c v in let r = s.rising b inside in (r.0, omega (arith, r.1, s.ne-le))
+  lies = let s = sound c v in let r = s.rising b inside in (r.0, omega (arith, r.1, s.ne_le))
 
   own_is : own ≡ tab (to - from) (λ k. get_or l (from + k) nan)
   unfolding band_of
@@ -59,8 +59,8 @@ module _ (c : ℕ) (v : T (valid c)) (l : List Float) (long : length l ≡ nf c)
   width = length-map square own ∙ ap length own_is ∙ length-tab (to - from) _
 
   -- the products ranked are those of the frame's lines
-  ranked-is : (k : ℕ) → k < to - from → get_or (squares own) k nan ≡ product l (from + k)
-  ranked-is k h =
+  ranked_is : (k : ℕ) → k < to - from → get_or (squares own) k nan ≡ product l (from + k)
+  ranked_is k h =
       get_or-map square own k nan nan (omega (arith, ap length own_is, length-tab (to - from) (λ k. get_or l (from + k) nan)))
       ∙ ap (λ (m : List Float). square (get_or m k nan)) own_is
       ∙ ap square (get_or-tab (to - from) _ nan k h)
@@ -68,7 +68,7 @@ module _ (c : ℕ) (v : T (valid c)) (l : List Float) (long : length l ≡ nf c)
   each-ranked : (k : ℕ) → k < length (squares own) → T (ranked (get_or (squares own) k nan))
   each-ranked k h =
       let i : k < to - from = omega (arith, width) in
-      subst (λ (x : Float). T (ranked x)) (sym (ranked-is k i)) (square-ranked _ (pass (from + k) (omega (arith, lies))))
+      subst (λ (x : Float). T (ranked x)) (sym (ranked_is k i)) (square-ranked _ (pass (from + k) (omega (arith, lies))))
 
   top : peak own ≡ best (squares own) (length (squares own))
   unfolding peak
@@ -81,7 +81,7 @@ module _ (c : ℕ) (v : T (valid c)) (l : List Float) (long : length l ≡ nf c)
   in_frame : (k : ℕ) → InBand c b k → product l k ≡ get_or (squares own) (k - from) nan
   in_frame k h =
       let e : from + (k - from) ≡ k = omega arith in
-      sym (ranked-is (k - from) (omega arith) ∙ ap (product l) e)
+      sym (ranked_is (k - from) (omega arith) ∙ ap (product l) e)
 
   pub peaked : Peak c l b (peak_of (edges c) l b)
   peaked =
@@ -147,10 +147,10 @@ module _ (c : ℕ) (x : Lent) (h : (measures c x).number ≡ 0) where
   ok : verdicts.Passed c x
   ok = verdicts.passed c x accepted
 
-  pass-6 : (k : ℕ) → k < length x.lines → T (passes6 (get_or x.lines k nan))
-  pass-6 k i =
+  pass_6 : (k : ℕ) → k < length x.lines → T (passes6 (get_or x.lines k nan))
+  pass_6 k i =
       let p = ok in
-      let e = rw (is_true (valid c) p.is-valid, eq-eqb _ _ p.lines-is, eq-eqb _ _ p.energies-is, eq-eqb _ _ p.peaks-is) at accepted in
+      let e = rw (is_true (valid c) p.is_valid, eq-eqb _ _ p.lines_is, eq-eqb _ _ p.energies_is, eq-eqb _ _ p.peaks_is) at accepted in
       let done = last (ltb (first passes6 x.lines) (length x.lines)) e in
       let whole : first passes6 x.lines ≡ length x.lines = omega (arith, ltb-false (first passes6 x.lines) (length x.lines) done, first-le passes6 x.lines) in
       subst T (sym (first_all passes6 x.lines nan whole k i)) tt
@@ -164,15 +164,15 @@ module _ (c : ℕ) (x : Lent) (h : (measures c x).number ≡ 0) where
   count = ap length gives ∙ length-tab (nb c) _
 
   module _ (b : ℕ) (i : b < nb c) where
-    is-peak : get_or (measures c x).peaks b 0 ≡ peak_of (edges c) x.lines b
+    is_peak : get_or (measures c x).peaks b 0 ≡ peak_of (edges c) x.lines b
     unfolding peaks_of peaks
-    is-peak = ap (λ (l : List ℕ). get_or l b 0) gives ∙ get_or-tab (nb c) _ 0 b i
+    is_peak = ap (λ (l : List ℕ). get_or l b 0) gives ∙ get_or-tab (nb c) _ 0 b i
 
     each : Peak c x.lines b (get_or (measures c x).peaks b 0)
-    each = subst (Peak c x.lines b) (sym is-peak) (peaked c ok.is-valid x.lines ok.lines-is pass-6 b i)
+    each = subst (Peak c x.lines b) (sym is_peak) (peaked c ok.is_valid x.lines ok.lines_is pass_6 b i)
 
     words : First (squares (band_of (edges c) x.lines b)) (peak (band_of (edges c) x.lines b)) × (get_or (measures c x).peaks b 0 ≡ peak_of (edges c) x.lines b)
-    words = (in_words c ok.is-valid x.lines ok.lines-is pass-6 b i, is-peak)
+    words = (in_words c ok.is_valid x.lines ok.lines_is pass_6 b i, is_peak)
 
 -- THE STATEMENT
 pub peaked_measurements : Peaks
@@ -188,9 +188,9 @@ peaked_measurements =
       untouched = untouched;
       second = refl;
       twins = refl;
-      at-the-bound = refl;
+      at_the_bound = refl;
       zeros = refl;
-      minus-zeros = refl;
+      minus_zeros = refl;
       vanishing = refl;
       subnormal = refl;
       short = refl;

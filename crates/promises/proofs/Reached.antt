@@ -40,4 +40,4 @@ not_within a (fin s m e) t h = lt_irrefl (a * down e) (lt_of_lt_of_le (ltb→lt 
 
 pub reached : Reached
 unfolding cleared frames lines_of mdct time_buffer buffer_step past_of buffer_of scaled folded fold_low fold_high weighed dct_iv spectrum work column column2 column3 column5 stage plan twiddle fft_im_of fft_re fft_im dct_twiddle dct_re dct_im gain start sizes fft_re_bits fft_im_bits dct_re_bits dct_im_bits lengths gain_bits windows.window windows.start entries row rows half tab of_bits of_fields odd count_trailing_zeros units round neg sum add sub mul div of_int energies_of energies band_of energy share edges edge_rows
-reached = record { line-above = not_within (2 ^ 16) line0 tt; energy-above = not_within (2 ^ 32) energy0 tt; square-is = refl; column-is = refl }
+reached = record { line_above = not_within (2 ^ 16) line0 tt; energy_above = not_within (2 ^ 32) energy0 tt; square_is = refl; column_is = refl }

@@ -22,27 +22,27 @@ pub short : Short
 unfolding row rows half fft_sizes dct_lengths plan tab buffer_step past_of output remains zip_with add
 short =
     record {
-      five-lasts = refl;
-      two-and-a-half-lasts = refl;
-      five-rates = refl;
-      two-and-a-half-rates = refl;
-      five-lengths = refl;
-      two-and-a-half-lengths = refl;
-      five-zeros = refl;
-      two-and-a-half-zeros = refl;
-      five-bands = refl;
-      two-and-a-half-bands = refl;
-      five-coded = refl;
-      two-and-a-half-coded = refl;
-      five-upper = refl;
-      two-and-a-half-upper = refl;
-      plan-10 = refl;
-      plan-20 = refl;
+      five_lasts = refl;
+      two_and_a_half_lasts = refl;
+      five_rates = refl;
+      two_and_a_half_rates = refl;
+      five_lengths = refl;
+      two_and_a_half_lengths = refl;
+      five_zeros = refl;
+      two_and_a_half_zeros = refl;
+      five_bands = refl;
+      two_and_a_half_bands = refl;
+      five_coded = refl;
+      two_and_a_half_coded = refl;
+      five_upper = refl;
+      two_and_a_half_upper = refl;
+      plan_10 = refl;
+      plan_20 = refl;
       last = refl;
       none_above = none_above;
       sizes = same_among fft_sizes all_sizes tt tt;
       lengths = same_among dct_lengths all_lengths tt tt;
-      buffer-whole = λ a0 a1 a2 a3 a4 a5 a6 a7 b0 b1 b2 b3. refl;
-      overlap-whole = λ m0 m1 m2 m3 t0 t1 t2 t3 t4 t5 t6 t7. refl;
-      memory-whole = λ t0 t1 t2 t3 t4 t5 t6 t7. refl;
+      buffer_whole = λ a0 a1 a2 a3 a4 a5 a6 a7 b0 b1 b2 b3. refl;
+      overlap_whole = λ m0 m1 m2 m3 t0 t1 t2 t3 t4 t5 t6 t7. refl;
+      memory_whole = λ t0 t1 t2 t3 t4 t5 t6 t7. refl;
     }

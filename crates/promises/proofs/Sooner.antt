@@ -23,15 +23,15 @@ use Rattle.bounds.specs.Within.{Each}
 use Rattle.bounds.proofs.Lists.{each_at}
 use Rattle.near_nyquist.specs.declared.Asked.{Asked}
 use Rattle.near_nyquist.specs.Sooner.{running, stop, told, up_to, answer, asked}
-use Rattle.near_nyquist.proofs.Sums.{stop-from, over, not-before, as-flagged}
+use Rattle.near_nyquist.proofs.Sums.{stop-from, over, not-before, as_flagged}
 use Rattle.promises.specs.Sooner.{split, Keeps, Passed, Stopped, Sooner}
 use Rattle.promises.proofs.NoOverflow.{passing_7}
 
 -- ---- energies that pass 7
 module _ (c : ℕ) (l : List Float) (p : Passed c l) where
-  is-answer : asked c l ≡ answer c l
+  is_answer : asked c l ≡ answer c l
   unfolding asked
-  is-answer = rw (le-leb c largest p.config, eq-eqb (length l) (nb c) p.bands, eq-eqb (first passes7 l) (length l) p.values)
+  is_answer = rw (le-leb c largest p.config, eq-eqb (length l) (nb c) p.bands, eq-eqb (first passes7 l) (length l) p.values)
 
   fit : split c ≤ length l
   fit = omega (arith, p.bands)
@@ -41,26 +41,26 @@ module _ (c : ℕ) (l : List Float) (p : Passed c l) where
 
   high : 32000 < rate c → asked c l ≡ told false 0
   unfolding answer
-  high h = is-answer ∙ rw (lt-leb (rate c) 32000 h)
+  high h = is_answer ∙ rw (lt-leb (rate c) 32000 h)
 
   low : rate c ≤ 32000 → asked c l ≡ up_to (nb c) at
   unfolding answer
-  low h = is-answer ∙ rw (le-leb (rate c) 32000 h)
+  low h = is_answer ∙ rw (le-leb (rate c) 32000 h)
 
   -- at 48 kHz, where it stops, and where it never does
-  by-case : {X : Type 0}
+  by_case : {X : Type 0}
       → (32000 < rate c → asked c l ≡ told false 0 → X)
       → (rate c ≤ 32000 → at < nb c → asked c l ≡ told true (at + 1) → X)
       → (rate c ≤ 32000 → nb c ≤ at → asked c l ≡ told false (nb c) → X)
       → X
-  by-case f g h =
+  by_case f g h =
       ⊎_elim
       (λ t. let r = leb-true (rate c) 32000 t in ⊎_elim (λ u. g r (ltb-true at (nb c) u) (low r ∙ rw u)) (λ u. h r (ltb-false at (nb c) u) (low r ∙ rw u)) (outcomes (ltb at (nb c))))
       (λ s. let r = leb-false (rate c) 32000 s in f r (high r))
       (outcomes (leb (rate c) 32000))
 
   taken : ((asked c l).number ≡ 0) × ((asked c l).index ≡ 0)
-  taken = by-case (λ r e. both e) (λ r h e. both e) (λ r h e. both e)
+  taken = by_case (λ r e. both e) (λ r h e. both e) (λ r h e. both e)
     where
       both : {b : Bool} {n : ℕ} → asked c l ≡ told b n → ((asked c l).number ≡ 0) × ((asked c l).index ≡ 0)
       both e = (ap (λ (a : Asked). a.number) e, ap (λ (a : Asked). a.index) e)
@@ -68,7 +68,7 @@ module _ (c : ℕ) (l : List Float) (p : Passed c l) where
   -- the full flag, by the same cases
   full : rate c ≤ 32000 → flag_of c l ≡ ltb at (nb c)
   unfolding flag_of
-  full r = rw (le-leb (rate c) 32000 r) (sym (as-flagged (split c) l fit (first_all passes7 l nan p.values)) ∙ ap (ltb at) p.bands)
+  full r = rw (le-leb (rate c) 32000 r) (sym (as_flagged (split c) l fit (first_all passes7 l nan p.values)) ∙ ap (ltb at) p.bands)
 
   off : 32000 < rate c → flag_of c l ≡ false
   unfolding flag_of
@@ -76,14 +76,14 @@ module _ (c : ℕ) (l : List Float) (p : Passed c l) where
 
   flag : (asked c l).answer ≡ flag_of c l
   flag =
-      by-case
+      by_case
       (λ r e. ap (λ (a : Asked). a.answer) e ∙ sym (off r))
       (λ r h e. ap (λ (a : Asked). a.answer) e ∙ sym (full r ∙ lt-ltb at (nb c) h))
       (λ r h e. ap (λ (a : Asked). a.answer) e ∙ sym (full r ∙ le-ltb at (nb c) h))
 
   yes : (asked c l).answer ≡ true → Stopped c l (asked c l).read
   yes y =
-      by-case
+      by_case
       (λ r e. absurd (true≢false (sym y ∙ ap (λ (a : Asked). a.answer) e)))
       (λ r h e. record {
         band = at;
@@ -97,7 +97,7 @@ module _ (c : ℕ) (l : List Float) (p : Passed c l) where
 
   no : rate c ≤ 32000 → (asked c l).answer ≡ false → ((asked c l).read ≡ nb c) × ((b : ℕ) → split c ≤ b → b < nb c → Keeps c l b)
   no low-rate n =
-      by-case
+      by_case
       (λ r e. absurd (omega arith))
       (λ r h e. absurd (true≢false (sym (ap (λ (a : Asked). a.answer) e) ∙ n)))
       (λ r h e. (ap (λ (a : Asked). a.read) e, λ b from in-bands. not-before (split c) l fit b from (omega arith)))
@@ -124,24 +124,24 @@ sooner =
       no = no;
       high = high;
       measured = λ c l v n a. let p = of_measurement c l v n a in ((taken c (energies_of c l) p).0, flag c (energies_of c l) p);
-      no-config = λ c l v. rw (lt-leb c largest v);
-      bad-energies = λ c l v n. rw (le-leb c largest v, ne_eqb (length l) (nb c) n);
-      bad-energy = λ c l v n i. rw (le-leb c largest v, eq-eqb (length l) (nb c) n, ne_eqb (first passes7 l) (length l) (λ e. omega arith));
-      at-the-edge = refl;
-      above-it = refl;
+      no_config = λ c l v. rw (lt-leb c largest v);
+      bad_energies = λ c l v n. rw (le-leb c largest v, ne_eqb (length l) (nb c) n);
+      bad_energy = λ c l v n i. rw (le-leb c largest v, eq-eqb (length l) (nb c) n, ne_eqb (first passes7 l) (length l) (λ e. omega arith));
+      at_the_edge = refl;
+      above_it = refl;
       middle = refl;
       last = refl;
       never = refl;
       zeros = refl;
-      last-lower = refl;
-      upper-overflow = refl;
-      lower-overflow = refl;
-      bound-overflow = refl;
-      behind-it = refl;
+      last_lower = refl;
+      upper_overflow = refl;
+      lower_overflow = refl;
+      bound_overflow = refl;
+      behind_it = refl;
       unread = refl;
-      two-bad = refl;
-      config-first = λ l. refl;
-      length-first = refl;
+      two_bad = refl;
+      config_first = λ l. refl;
+      length_first = refl;
       sixty = refl;
-      sixty-four = refl;
+      sixty_four = refl;
     }

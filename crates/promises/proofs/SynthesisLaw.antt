@@ -20,7 +20,7 @@ use Rattle.synthesis.specs.declared.Cleared.{Cleared}
 use Rattle.laws.specs.Numbers.{zero32}
 use Rattle.synthesis.proofs.Next.{length-memory_of, last-samples}
 use Rattle.synthesis_samples.specs.Samples.{places_of, samples_of, memory_of}
-use Rattle.synthesis.specs.Synthesis.{Lent, Given, kept_of, silent, cleared_as, cleared, number, framed, frames}
+use Rattle.synthesis.specs.Synthesis.{Lent, Given, kept_of, silent, cleared_as, cleared, framed, frames}
 use Rattle.promises.specs.Sequence.{accepts}
 use Rattle.promises.specs.SynthesisChannel.{memory, synthesis, last, SynthesisDemand3}
 use Rattle.promises.proofs.Zeros.{take-replicate}
@@ -47,7 +47,7 @@ read_none c v =
     sym (take-tab (nf c - z c) (replicate 300 zero32) zero32 (omega arith)) ∙ take-replicate zero32 (nf c - z c) 300 (omega arith)
 
 read_some : (c : ℕ) (f : List Float) → Fits ne c f → past c (keeps c (some f)) ≡ memory c (some f)
-read_some c f h = tab-at (memory_of c f) (replicate (300 - (nf c - z c)) zero32) zero32 (nf c - z c) (length-memory_of c h.is-valid f h.length-is)
+read_some c f h = tab-at (memory_of c f) (replicate (300 - (nf c - z c)) zero32) zero32 (nf c - z c) (length-memory_of c h.is_valid f h.length-is)
 
 -- an accepted call, on a memory and lines
 abbrev given : ℕ → List Float → List Float → Given
@@ -67,7 +67,7 @@ lawful =
       rest = λ c x. cond (not (eqb (length x.samples) (nf c))) 4 (cond (ltb (first passes6 x.lines) (length x.lines)) 6 0);
       number_is = λ c x. refl;
       framed = framed;
-      framed-by = λ a x. refl;
+      framed_by = λ a x. refl;
       frame_refused = λ n a x. refl;
       frame-gives = λ a x. refl;
       frame-config = λ a x. refl;
@@ -77,20 +77,20 @@ lawful =
     }
 
 -- the last z samples
-last-alone : (a : Channel) (f : Lent) → T (accepts synthesis a.config f)
+last_alone : (a : Channel) (f : Lent) → T (accepts synthesis a.config f)
     → last a.config (frames a f).0.samples ≡ take (z a.config) (drop (nf a.config) (places_of a.config f.lines))
 unfolding lawful
-last-alone a f t =
+last_alone a f t =
     let c = a.config in
     let h : Fits ne c f.lines = fits synthesis lawful c f t in
     ap (λ (r : Given × Channel). last c r.0.samples) (taken synthesis lawful a f t)
-    ∙ last-samples c h.is-valid f.lines h.length-is (past c a.memory) (length-tab (nf c - z c) (λ k. get_or a.memory k zero32))
+    ∙ last-samples c h.is_valid f.lines h.length-is (past c a.memory) (length-tab (nf c - z c) (λ k. get_or a.memory k zero32))
 
 pub synthesis_demand3 : SynthesisDemand3
 synthesis_demand3 =
     record {
       sequence = demand3 synthesis lawful;
-      last-alone = last-alone;
-      last-agree = λ a b e f g q s t.
-          last-alone a f s ∙ ap₂ (λ (c : ℕ) (l : List Float). take (z c) (drop (nf c) (places_of c l))) e q ∙ sym (last-alone b g t);
+      last_alone = last_alone;
+      last_agree = λ a b e f g q s t.
+          last_alone a f s ∙ ap₂ (λ (c : ℕ) (l : List Float). take (z c) (drop (nf c) (places_of c l))) e q ∙ sym (last_alone b g t);
     }

@@ -86,24 +86,24 @@ pub record Apart : Type 0 where
   pub in_turn_lem : (a : Channel) (x : combined.Lent) (p : List ℕ) → (in_turn a x p).0.number ≡ refusals.accepted
       → in_turn a x p ≡ old a x (peaks_of a.config (lines_of a.config (channel_past a) x.input))
   -- "every line the first call gives, on any samples and any past, is shown to pass 6": of any channel, and after any calls from a clear.
-  pub lines-pass : OnAny Pass
-  pub lines-pass-after : FromClear Pass
+  pub lines_pass : OnAny Pass
+  pub lines_pass_after : FromClear Pass
   -- So the second call never gives 6 on them.
   pub never_6 : OnAny Never6
   -- So the pair, with a room of nb peaks, accepts exactly where the old call did, and gives its number where that refused; of other areas of any lengths.
-  pub accepts-alike : (a : Channel) → Each Sample a.samples → (x : combined.Lent) → Each Sample x.input → (p : List ℕ) → length p ≡ nb a.config
+  pub accepts_alike : (a : Channel) → Each Sample a.samples → (x : combined.Lent) → Each Sample x.input → (p : List ℕ) → length p ≡ nb a.config
       → (in_turn a x p).0.number ≡ (old a x p).0.number
   -- Where the first call refuses, all is as the old call left it: nothing is written, and the channel is the one handed in.
-  pub first-refused : (a : Channel) (x : combined.Lent) (p : List ℕ) → ((frames a (lent x.input x.lines)).0.number ≡ refusals.accepted → ⊥) → in_turn a x p ≡ old a x p
+  pub first_refused : (a : Channel) (x : combined.Lent) (p : List ℕ) → ((frames a (lent x.input x.lines)).0.number ≡ refusals.accepted → ⊥) → in_turn a x p ≡ old a x p
   -- The difference to the old call: where that refused the energies' length, the frame is accepted now. Its lines are written and its channel has moved on; the
   -- measurement alone is refused, and its areas are as they were.
-  pub second-refused : (a : Channel) (x : combined.Lent) (p : List ℕ) → (old a x p).0.number ≡ refusals.bad_energies → in_turn a x p ≡ unmeasured a x p
+  pub second_refused : (a : Channel) (x : combined.Lent) (p : List ℕ) → (old a x p).0.number ≡ refusals.bad_energies → in_turn a x p ≡ unmeasured a x p
   -- And so where the old call accepted and the peaks' length is wrong.
-  pub peaks-refused : (a : Channel) (x : combined.Lent) (p : List ℕ) → (old a x p).0.number ≡ refusals.accepted → (length p ≡ nb a.config → ⊥)
+  pub peaks_refused : (a : Channel) (x : combined.Lent) (p : List ℕ) → (old a x p).0.number ≡ refusals.accepted → (length p ≡ nb a.config → ⊥)
       → in_turn a x p ≡ unmeasured a x p
   -- "Demands 2 and 3 speak of the pair so done": over any calls on a channel that an accepted clear gave, what an accepted pair gives is the definition's value on
   -- the configuration of the last accepted clear, that frame, and the frame accepted before it since that clear, with or without a measurement.
-  pub by-definition : (c : ℕ) (a : Channel) → clears analysis c ≡ some a → (qs : List (Call Lent)) (x : combined.Lent) (p : List ℕ)
+  pub by_definition : (c : ℕ) (a : Channel) → clears analysis c ≡ some a → (qs : List (Call Lent)) (x : combined.Lent) (p : List ℕ)
       → (in_turn (after analysis a qs) x p).0.number ≡ refusals.accepted
       → (in_turn (after analysis a qs) x p).0 ≡ valued (recall analysis (fresh c) qs).config (recall analysis (fresh c) qs).before x.input
   -- Two channels of one configuration, whatever their pasts, from the first accepted frame that they share on, while they share every accepted frame: what
@@ -115,10 +115,10 @@ pub record Apart : Type 0 where
       → (in_turn (after analysis a (frame f ∷ qs)) x p).0.number ≡ refusals.accepted → (in_turn (after analysis b (frame g ∷ rs)) y q).0.number ≡ refusals.accepted
       → (in_turn (after analysis a (frame f ∷ qs)) x p).0 ≡ (in_turn (after analysis b (frame g ∷ rs)) y q).0
   -- "6 now also applies to the second call's lines, tested last", on each side of its edges. Two lines of 2^60 pass.
-  pub at-the-bound : (measures 0 (loud 0x5d800000 60)).number ≡ refusals.accepted
+  pub at_the_bound : (measures 0 (loud 0x5d800000 60)).number ≡ refusals.accepted
   -- One bit more in two lines: 6, with the first of them, and both rooms as they were.
-  pub above-it : measures 0 (loud 0x5d800001 60) ≡ refused_by refusals.bad_value 7 (loud 0x5d800001 60)
+  pub above_it : measures 0 (loud 0x5d800001 60) ≡ refused_by refusals.bad_value 7 (loud 0x5d800001 60)
   -- The same with a room that is one short: 5.
-  pub tested-last : measures 0 (loud 0x5d800001 59) ≡ refused_by refusals.bad_energies 0 (loud 0x5d800001 59)
+  pub tested_last : measures 0 (loud 0x5d800001 59) ≡ refused_by refusals.bad_energies 0 (loud 0x5d800001 59)
   -- Zero lines, in a room of energies that would be flagged: no flag. The flag is of the energies measured.
-  pub own-flag : (measures 0 (measurement.lent (replicate 60 zero32) (edge 0 0x41f00001) (replicate 60 9))).flag ≡ false
+  pub own_flag : (measures 0 (measurement.lent (replicate 60 zero32) (edge 0 0x41f00001) (replicate 60 9))).flag ≡ false

@@ -2,7 +2,6 @@
 -- caller and leaves one answer only; rows of `Cited` say that the clause is the equation with the very definition that the demands speak of. A weaker `ensures`, or
 -- a `requires`, in a crate's src/ breaks the row's proof here. Definitions only.
 use Rattle.std.specs.Prelude.{◌≡◌, List, ℕ}
-use seplogic.Ra.Ura.{Ura}
 use base.Logic.{SProp, ent, emp}
 use prog.Memory.{Memory}
 use prog.Routine.{Routine}
@@ -102,13 +101,13 @@ use Rattle.analysis_steps.specs.contracts.silence_300
 use Rattle.analysis_steps.specs.contracts.scale
 use Rattle.measurement_steps.specs.contracts.total
 use Rattle.synthesis_steps.specs.contracts.zeros
-use Rattle.analysis.specs.contracts.clear as analysis-clear
-use Rattle.analysis.specs.contracts.Channel.frame as analysis-frame
-use Rattle.analysis.specs.contracts.frame_at as analysis-frame-at
+use Rattle.analysis.specs.contracts.clear as analysis_clear
+use Rattle.analysis.specs.contracts.Channel.frame as analysis_frame
+use Rattle.analysis.specs.contracts.frame_at as analysis_frame_at
 use Rattle.measurement.specs.contracts.measure
-use Rattle.synthesis.specs.contracts.clear as synthesis-clear
-use Rattle.synthesis.specs.contracts.Channel.frame as synthesis-frame
-use Rattle.synthesis.specs.contracts.frame_at as synthesis-frame-at
+use Rattle.synthesis.specs.contracts.clear as synthesis_clear
+use Rattle.synthesis.specs.contracts.Channel.frame as synthesis_frame
+use Rattle.synthesis.specs.contracts.frame_at as synthesis_frame_at
 use Rattle.loudest.specs.contracts.loudest_band
 use Rattle.near_nyquist.specs.contracts.near_nyquist
 use Rattle.plain_text.specs.contracts.digit
@@ -134,8 +133,8 @@ use Rattle.call_log.specs.contracts.samples
 use Rattle.call_log.specs.contracts.floats
 use Rattle.call_log.specs.contracts.area
 use Rattle.call_log.specs.contracts.peaks
-use Rattle.call_log.specs.contracts.read_header as read-log-header
-use Rattle.call_log.specs.contracts.header_number as log-header-number
+use Rattle.call_log.specs.contracts.read_header as read_log_header
+use Rattle.call_log.specs.contracts.header_number as log_header_number
 use Rattle.call_log.specs.contracts.call_taken
 use Rattle.call_text.specs.contracts.put_call
 use Rattle.call_text.specs.contracts.put_show
@@ -167,9 +166,9 @@ abbrev pub Answer : (T : Ended) (κs : Lfts T.signature.lifetimes) → Args T.si
 Answer T κs a = Res T.signature κs × Lasts T κs a
 
 -- at a model w of the logic, c is the contract of a function with the signature T
-module _ (w : World) (T : Ended) (c : (𝓤 : Ura w.M) → (𝓛 : Logic 𝓤) → (Memory → SProp 𝓤) → (Routine → Fun 𝓤) → Clauses 𝓤 T) where
+module _ (w : World) (T : Ended) (c : Logic w.𝓤 → (Memory → SProp w.𝓤) → (Routine → Fun w.𝓤) → Clauses w.𝓤 T) where
   abbrev pub here : Clauses w.𝓤 T
-  here = c w.𝓤 w.𝓛 w.𝓜.mem w.𝓡.run
+  here = c w.𝓛 w.𝓜.mem w.𝓡.run
 
   -- what its `ensures` says of an answer x to the call on a
   abbrev pub says : (κs : Lfts T.signature.lifetimes) (a : Args T.signature κs) → (here κs a).ghost → Answer T κs a → Pr w
@@ -199,10 +198,10 @@ module _ (w : World) (T : Ended) (c : (𝓤 : Ura w.M) → (𝓛 : Logic 𝓤) �
 
 pub record Entries (w : World) : Type 1 where
   -- laws
-  pub passes-6 : Entry w passes_6.ended passes_6.clauses
-  pub passes-7 : Entry w passes_7.ended passes_7.clauses
-  pub first-failing-6 : Entry w first_failing_6.ended first_failing_6.clauses
-  pub first-failing-7 : Entry w first_failing_7.ended first_failing_7.clauses
+  pub passes_6 : Entry w passes_6.ended passes_6.clauses
+  pub passes_7 : Entry w passes_7.ended passes_7.clauses
+  pub first_failing_6 : Entry w first_failing_6.ended first_failing_6.clauses
+  pub first_failing_7 : Entry w first_failing_7.ended first_failing_7.clauses
   -- complex, methods of Complex
   pub new : Entry w new.ended new.clauses
   pub add : Entry w add.ended add.clauses
@@ -220,46 +219,46 @@ pub record Entries (w : World) : Type 1 where
   pub upper : Entry w upper.ended upper.clauses
   pub half : Entry w half.ended half.clauses
   pub edges : Entry w edges.ended edges.clauses
-  pub is-fft-size : Entry w is_fft_size.ended is_fft_size.clauses
-  pub is-dct-length : Entry w is_dct_length.ended is_dct_length.clauses
+  pub is_fft_size : Entry w is_fft_size.ended is_fft_size.clauses
+  pub is_dct_length : Entry w is_dct_length.ended is_dct_length.clauses
   -- refusals
   pub told : Entry w told.ended told.clauses
-  pub on-clear : Entry w on_clear.ended on_clear.clauses
-  pub on-values : Entry w on_values.ended on_values.clauses
-  pub on-energies : Entry w on_energies.ended on_energies.clauses
+  pub on_clear : Entry w on_clear.ended on_clear.clauses
+  pub on_values : Entry w on_values.ended on_values.clauses
+  pub on_energies : Entry w on_energies.ended on_energies.clauses
   -- windows
-  pub w-n60-7p5ms : Entry w w_n60_7p5ms.ended w_n60_7p5ms.clauses
-  pub w-n120-7p5ms : Entry w w_n120_7p5ms.ended w_n120_7p5ms.clauses
-  pub w-n180-7p5ms : Entry w w_n180_7p5ms.ended w_n180_7p5ms.clauses
-  pub w-n240-7p5ms : Entry w w_n240_7p5ms.ended w_n240_7p5ms.clauses
-  pub w-n360-7p5ms : Entry w w_n360_7p5ms.ended w_n360_7p5ms.clauses
-  pub w-n80-10ms : Entry w w_n80_10ms.ended w_n80_10ms.clauses
-  pub w-n160-10ms : Entry w w_n160_10ms.ended w_n160_10ms.clauses
-  pub w-n240-10ms : Entry w w_n240_10ms.ended w_n240_10ms.clauses
-  pub w-n320-10ms : Entry w w_n320_10ms.ended w_n320_10ms.clauses
-  pub w-n480-10ms : Entry w w_n480_10ms.ended w_n480_10ms.clauses
-  pub w-n40-5ms : Entry w w_n40_5ms.ended w_n40_5ms.clauses
-  pub w-n80-5ms : Entry w w_n80_5ms.ended w_n80_5ms.clauses
-  pub w-n120-5ms : Entry w w_n120_5ms.ended w_n120_5ms.clauses
-  pub w-n160-5ms : Entry w w_n160_5ms.ended w_n160_5ms.clauses
-  pub w-n240-5ms : Entry w w_n240_5ms.ended w_n240_5ms.clauses
-  pub w-n20-2p5ms : Entry w w_n20_2p5ms.ended w_n20_2p5ms.clauses
-  pub w-n40-2p5ms : Entry w w_n40_2p5ms.ended w_n40_2p5ms.clauses
-  pub w-n60-2p5ms : Entry w w_n60_2p5ms.ended w_n60_2p5ms.clauses
-  pub w-n80-2p5ms : Entry w w_n80_2p5ms.ended w_n80_2p5ms.clauses
-  pub w-n120-2p5ms : Entry w w_n120_2p5ms.ended w_n120_2p5ms.clauses
+  pub w_n60_7p5ms : Entry w w_n60_7p5ms.ended w_n60_7p5ms.clauses
+  pub w_n120_7p5ms : Entry w w_n120_7p5ms.ended w_n120_7p5ms.clauses
+  pub w_n180_7p5ms : Entry w w_n180_7p5ms.ended w_n180_7p5ms.clauses
+  pub w_n240_7p5ms : Entry w w_n240_7p5ms.ended w_n240_7p5ms.clauses
+  pub w_n360_7p5ms : Entry w w_n360_7p5ms.ended w_n360_7p5ms.clauses
+  pub w_n80_10ms : Entry w w_n80_10ms.ended w_n80_10ms.clauses
+  pub w_n160_10ms : Entry w w_n160_10ms.ended w_n160_10ms.clauses
+  pub w_n240_10ms : Entry w w_n240_10ms.ended w_n240_10ms.clauses
+  pub w_n320_10ms : Entry w w_n320_10ms.ended w_n320_10ms.clauses
+  pub w_n480_10ms : Entry w w_n480_10ms.ended w_n480_10ms.clauses
+  pub w_n40_5ms : Entry w w_n40_5ms.ended w_n40_5ms.clauses
+  pub w_n80_5ms : Entry w w_n80_5ms.ended w_n80_5ms.clauses
+  pub w_n120_5ms : Entry w w_n120_5ms.ended w_n120_5ms.clauses
+  pub w_n160_5ms : Entry w w_n160_5ms.ended w_n160_5ms.clauses
+  pub w_n240_5ms : Entry w w_n240_5ms.ended w_n240_5ms.clauses
+  pub w_n20_2p5ms : Entry w w_n20_2p5ms.ended w_n20_2p5ms.clauses
+  pub w_n40_2p5ms : Entry w w_n40_2p5ms.ended w_n40_2p5ms.clauses
+  pub w_n60_2p5ms : Entry w w_n60_2p5ms.ended w_n60_2p5ms.clauses
+  pub w_n80_2p5ms : Entry w w_n80_2p5ms.ended w_n80_2p5ms.clauses
+  pub w_n120_2p5ms : Entry w w_n120_2p5ms.ended w_n120_2p5ms.clauses
   -- twiddles
-  pub dct-10 : Entry w dct_10.ended dct_10.clauses
-  pub dct-20 : Entry w dct_20.ended dct_20.clauses
-  pub dct-30 : Entry w dct_30.ended dct_30.clauses
-  pub dct-40 : Entry w dct_40.ended dct_40.clauses
-  pub dct-60 : Entry w dct_60.ended dct_60.clauses
-  pub dct-80 : Entry w dct_80.ended dct_80.clauses
-  pub dct-90 : Entry w dct_90.ended dct_90.clauses
-  pub dct-120 : Entry w dct_120.ended dct_120.clauses
-  pub dct-160 : Entry w dct_160.ended dct_160.clauses
-  pub dct-180 : Entry w dct_180.ended dct_180.clauses
-  pub dct-240 : Entry w dct_240.ended dct_240.clauses
+  pub dct_10 : Entry w dct_10.ended dct_10.clauses
+  pub dct_20 : Entry w dct_20.ended dct_20.clauses
+  pub dct_30 : Entry w dct_30.ended dct_30.clauses
+  pub dct_40 : Entry w dct_40.ended dct_40.clauses
+  pub dct_60 : Entry w dct_60.ended dct_60.clauses
+  pub dct_80 : Entry w dct_80.ended dct_80.clauses
+  pub dct_90 : Entry w dct_90.ended dct_90.clauses
+  pub dct_120 : Entry w dct_120.ended dct_120.clauses
+  pub dct_160 : Entry w dct_160.ended dct_160.clauses
+  pub dct_180 : Entry w dct_180.ended dct_180.clauses
+  pub dct_240 : Entry w dct_240.ended dct_240.clauses
   pub negate : Entry w negate.ended negate.clauses
   -- gains
   pub gain : Entry w gain.ended gain.clauses
@@ -269,59 +268,59 @@ pub record Entries (w : World) : Type 1 where
   pub four : Entry w four.ended four.clauses
   pub five : Entry w five.ended five.clauses
   -- fft_tables
-  pub fft-10 : Entry w fft_10.ended fft_10.clauses
-  pub fft-20 : Entry w fft_20.ended fft_20.clauses
-  pub fft-30 : Entry w fft_30.ended fft_30.clauses
-  pub fft-40 : Entry w fft_40.ended fft_40.clauses
-  pub fft-60 : Entry w fft_60.ended fft_60.clauses
-  pub fft-80 : Entry w fft_80.ended fft_80.clauses
-  pub fft-90 : Entry w fft_90.ended fft_90.clauses
-  pub fft-120 : Entry w fft_120.ended fft_120.clauses
-  pub fft-160 : Entry w fft_160.ended fft_160.clauses
-  pub fft-180 : Entry w fft_180.ended fft_180.clauses
-  pub fft-240 : Entry w fft_240.ended fft_240.clauses
-  pub plan-10 : Entry w plan_10.ended plan_10.clauses
-  pub plan-20 : Entry w plan_20.ended plan_20.clauses
-  pub plan-30 : Entry w plan_30.ended plan_30.clauses
-  pub plan-40 : Entry w plan_40.ended plan_40.clauses
-  pub plan-60 : Entry w plan_60.ended plan_60.clauses
-  pub plan-80 : Entry w plan_80.ended plan_80.clauses
-  pub plan-90 : Entry w plan_90.ended plan_90.clauses
-  pub plan-120 : Entry w plan_120.ended plan_120.clauses
-  pub plan-160 : Entry w plan_160.ended plan_160.clauses
-  pub plan-180 : Entry w plan_180.ended plan_180.clauses
-  pub plan-240 : Entry w plan_240.ended plan_240.clauses
+  pub fft_10 : Entry w fft_10.ended fft_10.clauses
+  pub fft_20 : Entry w fft_20.ended fft_20.clauses
+  pub fft_30 : Entry w fft_30.ended fft_30.clauses
+  pub fft_40 : Entry w fft_40.ended fft_40.clauses
+  pub fft_60 : Entry w fft_60.ended fft_60.clauses
+  pub fft_80 : Entry w fft_80.ended fft_80.clauses
+  pub fft_90 : Entry w fft_90.ended fft_90.clauses
+  pub fft_120 : Entry w fft_120.ended fft_120.clauses
+  pub fft_160 : Entry w fft_160.ended fft_160.clauses
+  pub fft_180 : Entry w fft_180.ended fft_180.clauses
+  pub fft_240 : Entry w fft_240.ended fft_240.clauses
+  pub plan_10 : Entry w plan_10.ended plan_10.clauses
+  pub plan_20 : Entry w plan_20.ended plan_20.clauses
+  pub plan_30 : Entry w plan_30.ended plan_30.clauses
+  pub plan_40 : Entry w plan_40.ended plan_40.clauses
+  pub plan_60 : Entry w plan_60.ended plan_60.clauses
+  pub plan_80 : Entry w plan_80.ended plan_80.clauses
+  pub plan_90 : Entry w plan_90.ended plan_90.clauses
+  pub plan_120 : Entry w plan_120.ended plan_120.clauses
+  pub plan_160 : Entry w plan_160.ended plan_160.clauses
+  pub plan_180 : Entry w plan_180.ended plan_180.clauses
+  pub plan_240 : Entry w plan_240.ended plan_240.clauses
   -- kissfft
   pub fft : Entry w fft.ended fft.clauses
   -- dct_iv
-  pub dct-iv : Entry w dct_iv.ended dct_iv.clauses
+  pub dct_iv : Entry w dct_iv.ended dct_iv.clauses
   -- analysis_steps, measurement_steps and synthesis_steps: the steps that ask nothing
-  pub silence-300 : Entry w silence_300.ended silence_300.clauses
+  pub silence_300 : Entry w silence_300.ended silence_300.clauses
   pub scale : Entry w scale.ended scale.clauses
   pub total : Entry w total.ended total.clauses
   pub zeros : Entry w zeros.ended zeros.clauses
   -- analysis
-  pub analysis-clear : Entry w analysis-clear.ended analysis-clear.clauses
-  pub analysis-frame : Entry w analysis-frame.ended analysis-frame.clauses
-  pub analysis-frame-at : Entry w analysis-frame-at.ended analysis-frame-at.clauses
+  pub analysis_clear : Entry w analysis_clear.ended analysis_clear.clauses
+  pub analysis_frame : Entry w analysis_frame.ended analysis_frame.clauses
+  pub analysis_frame_at : Entry w analysis_frame_at.ended analysis_frame_at.clauses
   -- measurement
   pub measure : Entry w measure.ended measure.clauses
   -- synthesis
-  pub synthesis-clear : Entry w synthesis-clear.ended synthesis-clear.clauses
-  pub synthesis-frame : Entry w synthesis-frame.ended synthesis-frame.clauses
-  pub synthesis-frame-at : Entry w synthesis-frame-at.ended synthesis-frame-at.clauses
+  pub synthesis_clear : Entry w synthesis_clear.ended synthesis_clear.clauses
+  pub synthesis_frame : Entry w synthesis_frame.ended synthesis_frame.clauses
+  pub synthesis_frame_at : Entry w synthesis_frame_at.ended synthesis_frame_at.clauses
   -- loudest
-  pub loudest-band : Entry w loudest_band.ended loudest_band.clauses
+  pub loudest_band : Entry w loudest_band.ended loudest_band.clauses
   -- near_nyquist
-  pub near-nyquist : Entry w near_nyquist.ended near_nyquist.clauses
+  pub near_nyquist : Entry w near_nyquist.ended near_nyquist.clauses
   -- plain_text
   pub digit : Entry w digit.ended digit.clauses
   -- frame_file
   pub join : Entry w join.ended join.clauses
-  pub read-header : Entry w read_header.ended read_header.clauses
-  pub header-number : Entry w header_number.ended header_number.clauses
-  pub read-record : Entry w read_record.ended read_record.clauses
-  pub record-number : Entry w record_number.ended record_number.clauses
+  pub read_header : Entry w read_header.ended read_header.clauses
+  pub header_number : Entry w header_number.ended header_number.clauses
+  pub read_record : Entry w read_record.ended read_record.clauses
+  pub record_number : Entry w record_number.ended record_number.clauses
   pub sample : Entry w sample.ended sample.clauses
   -- listing
   pub opened : Entry w open.ended open.clauses
@@ -329,41 +328,41 @@ pub record Entries (w : World) : Type 1 where
   pub wanted : Entry w wanted.ended wanted.clauses
   pub size : Entry w size.ended size.clauses
   -- call_log
-  pub byte-at : Entry w byte_at.ended byte_at.clauses
+  pub byte_at : Entry w byte_at.ended byte_at.clauses
   -- the bytes of the slice that is returned; where they lie is not said
   pub rest : AsksNothing w rest.ended rest.clauses × OneAnswerOf w rest.ended rest.clauses (λ κs a. List ℕ) (λ κs a x. x.0.now)
   pub short : Entry w short.ended short.clauses
   pub word : Entry w word.ended word.clauses
   pub count : Entry w count.ended count.clauses
-  pub count-floats : Entry w count_floats.ended count_floats.clauses
-  pub count-samples : Entry w count_samples.ended count_samples.clauses
-  pub count-places : Entry w count_places.ended count_places.clauses
+  pub count_floats : Entry w count_floats.ended count_floats.clauses
+  pub count_samples : Entry w count_samples.ended count_samples.clauses
+  pub count_places : Entry w count_places.ended count_places.clauses
   pub samples : Entry w samples.ended samples.clauses
   pub floats : Entry w floats.ended floats.clauses
   pub area : Entry w area.ended area.clauses
   pub peaks : Entry w peaks.ended peaks.clauses
-  pub read-log-header : Entry w read-log-header.ended read-log-header.clauses
-  pub log-header-number : Entry w log-header-number.ended log-header-number.clauses
-  pub call-taken : Entry w call_taken.ended call_taken.clauses
+  pub read_log_header : Entry w read_log_header.ended read_log_header.clauses
+  pub log_header_number : Entry w log_header_number.ended log_header_number.clauses
+  pub call_taken : Entry w call_taken.ended call_taken.clauses
   -- call_text
-  pub put-call : Entry w put_call.ended put_call.clauses
-  pub put-show : Entry w put_show.ended put_show.clauses
-  pub put-last : Entry w put_last.ended put_last.clauses
+  pub put_call : Entry w put_call.ended put_call.clauses
+  pub put_show : Entry w put_show.ended put_show.clauses
+  pub put_last : Entry w put_last.ended put_last.clauses
   -- call_made
   pub fresh : Entry w fresh.ended fresh.clauses
   pub made : Entry w made.ended made.clauses
   -- c_api
-  pub c-fft : Entry w loamscarf_fft.ended loamscarf_fft.clauses
-  pub c-dct-iv : Entry w loamscarf_dct_iv.ended loamscarf_dct_iv.clauses
-  pub c-analysis-clear : Entry w loamscarf_analysis_clear.ended loamscarf_analysis_clear.clauses
-  pub c-analysis-frame : Entry w loamscarf_analysis_frame.ended loamscarf_analysis_frame.clauses
-  pub c-analysis-frame-at : Entry w loamscarf_analysis_frame_at.ended loamscarf_analysis_frame_at.clauses
-  pub c-measure : Entry w loamscarf_measure.ended loamscarf_measure.clauses
-  pub c-synthesis-clear : Entry w loamscarf_synthesis_clear.ended loamscarf_synthesis_clear.clauses
-  pub c-synthesis-frame : Entry w loamscarf_synthesis_frame.ended loamscarf_synthesis_frame.clauses
-  pub c-synthesis-frame-at : Entry w loamscarf_synthesis_frame_at.ended loamscarf_synthesis_frame_at.clauses
-  pub c-loudest-band : Entry w loamscarf_loudest_band.ended loamscarf_loudest_band.clauses
-  pub c-near-nyquist : Entry w loamscarf_near_nyquist.ended loamscarf_near_nyquist.clauses
+  pub c_fft : Entry w loamscarf_fft.ended loamscarf_fft.clauses
+  pub c_dct_iv : Entry w loamscarf_dct_iv.ended loamscarf_dct_iv.clauses
+  pub c_analysis_clear : Entry w loamscarf_analysis_clear.ended loamscarf_analysis_clear.clauses
+  pub c_analysis_frame : Entry w loamscarf_analysis_frame.ended loamscarf_analysis_frame.clauses
+  pub c_analysis_frame_at : Entry w loamscarf_analysis_frame_at.ended loamscarf_analysis_frame_at.clauses
+  pub c_measure : Entry w loamscarf_measure.ended loamscarf_measure.clauses
+  pub c_synthesis_clear : Entry w loamscarf_synthesis_clear.ended loamscarf_synthesis_clear.clauses
+  pub c_synthesis_frame : Entry w loamscarf_synthesis_frame.ended loamscarf_synthesis_frame.clauses
+  pub c_synthesis_frame_at : Entry w loamscarf_synthesis_frame_at.ended loamscarf_synthesis_frame_at.clauses
+  pub c_loudest_band : Entry w loamscarf_loudest_band.ended loamscarf_loudest_band.clauses
+  pub c_near_nyquist : Entry w loamscarf_near_nyquist.ended loamscarf_near_nyquist.clauses
 
 -- The clauses that the demands and the listing's theorem stand on. a.0 is the first argument of a call, a.1.0 the second, and so on; x.0 is the return, and
 -- x.1 holds, in the arguments' places, what the slices lent for writing hold at exit.
@@ -372,28 +371,28 @@ pub record Cited (w : World) : Type 2 where
   pub fft : Says w fft.ended fft.clauses
       (λ κs a x. kissfft.outcome x.0 x.1.1.1.1.1.0 x.1.1.1.1.1.1.0 ≡ kissfft.answer a.0 a.1.0 a.1.1.0.now a.1.1.1.0.now a.1.1.1.1.0.now a.1.1.1.1.1.0.now)
   -- dct_iv: `dct_iv` gives `answer`
-  pub dct-iv : Says w dct_iv.ended dct_iv.clauses (λ κs a x. dct.outcome x.0 x.1.1.0 ≡ dct.answer a.0 a.1.0.now)
+  pub dct_iv : Says w dct_iv.ended dct_iv.clauses (λ κs a x. dct.outcome x.0 x.1.1.0 ≡ dct.answer a.0 a.1.0.now)
   -- analysis: `clear` gives `cleared`, `frame` gives `frames`, and so does `frame_at`, on the channel that is lent
-  pub analysis-clear : Says w analysis-clear.ended analysis-clear.clauses (λ κs a x. x.0 ≡ analysis.cleared a.0)
-  pub analysis-frame : Says w analysis-frame.ended analysis-frame.clauses
+  pub analysis_clear : Says w analysis_clear.ended analysis_clear.clauses (λ κs a x. x.0 ≡ analysis.cleared a.0)
+  pub analysis_frame : Says w analysis_frame.ended analysis_frame.clauses
       (λ κs a x. analysis.frames a.0 (analysis.lent a.1.0.now a.1.1.0.now) ≡ analysis.outcome x.0 x.1.1.1.0)
-  pub analysis-frame-at : Says w analysis-frame-at.ended analysis-frame-at.clauses
+  pub analysis_frame_at : Says w analysis_frame_at.ended analysis_frame_at.clauses
       (λ κs a x. analysis.frames (analysis.channel_of a.0 a.1.0.now) (analysis.lent a.1.1.0.now a.1.1.1.0.now)
       ≡ analysis.outcome_at a.0 x.0 x.1.1.0 x.1.1.1.1.0)
   -- measurement: `measure` gives `measures`
   pub measure : Says w measure.ended measure.clauses
       (λ κs a x. measurement.outcome x.0 x.1.1.1.0 x.1.1.1.1.0 ≡ measurement.measures a.0 (measurement.lent a.1.0.now a.1.1.0.now a.1.1.1.0.now))
   -- synthesis, alike
-  pub synthesis-clear : Says w synthesis-clear.ended synthesis-clear.clauses (λ κs a x. x.0 ≡ synthesis.cleared a.0)
-  pub synthesis-frame : Says w synthesis-frame.ended synthesis-frame.clauses
+  pub synthesis_clear : Says w synthesis_clear.ended synthesis_clear.clauses (λ κs a x. x.0 ≡ synthesis.cleared a.0)
+  pub synthesis_frame : Says w synthesis_frame.ended synthesis_frame.clauses
       (λ κs a x. synthesis.frames a.0 (synthesis.lent a.1.0.now a.1.1.0.now) ≡ synthesis.outcome x.0 x.1.1.1.0)
-  pub synthesis-frame-at : Says w synthesis-frame-at.ended synthesis-frame-at.clauses
+  pub synthesis_frame_at : Says w synthesis_frame_at.ended synthesis_frame_at.clauses
       (λ κs a x. synthesis.frames (synthesis.channel_of a.0 a.1.0.now) (synthesis.lent a.1.1.0.now a.1.1.1.0.now)
       ≡ synthesis.outcome_at a.0 x.0 x.1.1.0 x.1.1.1.1.0)
   -- loudest: `loudest_band` gives `heard`
-  pub loudest-band : Says w loudest_band.ended loudest_band.clauses (λ κs a x. x.0 ≡ heard a.0 a.1.0.now)
+  pub loudest_band : Says w loudest_band.ended loudest_band.clauses (λ κs a x. x.0 ≡ heard a.0 a.1.0.now)
   -- near_nyquist: `near_nyquist` gives `asked`
-  pub near-nyquist : Says w near_nyquist.ended near_nyquist.clauses (λ κs a x. x.0 ≡ asked a.0 a.1.0.now)
+  pub near_nyquist : Says w near_nyquist.ended near_nyquist.clauses (λ κs a x. x.0 ≡ asked a.0 a.1.0.now)
   -- listing: `open` gives `opening`, `step` gives `step`
   pub opened : Says w open.ended open.clauses (λ κs a x. x.0 ≡ steps.opening a.0.now)
   pub step : Says w step.ended step.clauses (λ κs a x. x.0 ≡ steps.step a.0 a.1.0.now)

@@ -52,7 +52,7 @@ pub record Facts : Type 0 where
       → buffer_step 4 1 (a0 ∷ a1 ∷ a2 ∷ a3 ∷ a4 ∷ a5 ∷ a6 ∷ pos 0 ∷ []) (b0 ∷ b1 ∷ b2 ∷ b3 ∷ []) ≡ a4 ∷ a5 ∷ a6 ∷ b0 ∷ b1 ∷ b2 ∷ b3 ∷ pos 0 ∷ []
   -- P7 overlap, nf 4, z 1: m0+t1, m1+t2, m2+t3, t4; memory t5,t6,t7
   pub p7 : (m0 m1 m2 t0 t1 t2 t3 t4 t5 t6 t7 : Float) → output 4 1 (m0 ∷ m1 ∷ m2 ∷ []) (t0 ∷ t1 ∷ t2 ∷ t3 ∷ t4 ∷ t5 ∷ t6 ∷ t7 ∷ []) ≡ add binary32 m0 t1 ∷ add binary32 m1 t2 ∷ add binary32 m2 t3 ∷ t4 ∷ []
-  pub p7-memory : (t0 t1 t2 t3 t4 t5 t6 t7 : Float) → remains 4 1 (t0 ∷ t1 ∷ t2 ∷ t3 ∷ t4 ∷ t5 ∷ t6 ∷ t7 ∷ []) ≡ t5 ∷ t6 ∷ t7 ∷ []
+  pub p7_memory : (t0 t1 t2 t3 t4 t5 t6 t7 : Float) → remains 4 1 (t0 ∷ t1 ∷ t2 ∷ t3 ∷ t4 ∷ t5 ∷ t6 ∷ t7 ∷ []) ≡ t5 ∷ t6 ∷ t7 ∷ []
   -- P8 configuration 5, energies zero but band 0 = 1.0, band 62 = 30.0: flag 0
   pub p8 : flag_of 5 (bands 0x41f00000) ≡ false
   -- P9 band 62 with bits 0x41F00001: flag 1
@@ -60,15 +60,15 @@ pub record Facts : Type 0 where
   -- P10 the same energies at configuration 9: flag 0
   pub p10 : flag_of 9 (bands 0x41f00001) ≡ false
   -- P11 bits 0x5D800000 (2^60) pass, 0x5D800001 gives 6: by the test, and as line 7 of a synthesis call, whose index is then 7
-  pub p11-passes : passes6 (of_bits binary32 0x5d800000) ≡ true
-  pub p11-fails : passes6 (of_bits binary32 0x5d800001) ≡ false
-  pub p11-accepted : number 0 (loud7 0x5d800000) ≡ accepted
-  pub p11-refused : number 0 (loud7 0x5d800001) ≡ bad_value
-  pub p11-index : index bad_value (loud7 0x5d800001) ≡ 7
+  pub p11_passes : passes6 (of_bits binary32 0x5d800000) ≡ true
+  pub p11_fails : passes6 (of_bits binary32 0x5d800001) ≡ false
+  pub p11_accepted : number 0 (loud7 0x5d800000) ≡ accepted
+  pub p11_refused : number 0 (loud7 0x5d800001) ≡ bad_value
+  pub p11_index : index bad_value (loud7 0x5d800001) ≡ 7
   -- P12, which with document 02 §2 reads: two equal greatest products, the lower band. A hum of 20.0 in band 2 and a tone of 1.0 in band 60, whose products are both 20.0
   pub p12 : paper (heard 9 (beside60 2 0x41a00000 0x3f800000)) ≡ of_loud 2 (of_bits binary32 0x41a00000)
   -- A hum of 3.0 and the same tone: the mean of band 2 is greater, the product of band 60.
-  pub p12-mean : best (beside60 2 0x40400000 0x3f800000) 64 ≡ 2
-  pub p12-broad : paper (heard 9 (beside60 2 0x40400000 0x3f800000)) ≡ of_loud 60 (of_bits binary32 0x41a00000)
+  pub p12_mean : best (beside60 2 0x40400000 0x3f800000) 64 ≡ 2
+  pub p12_broad : paper (heard 9 (beside60 2 0x40400000 0x3f800000)) ≡ of_loud 60 (of_bits binary32 0x41a00000)
   -- And of any energies, the band told is the first with the greatest product, and comes with it
   pub p12_any : (c : ℕ) (l : List Float) (b : ℕ) (p : Float) → (paper (heard c l)).values ≡ some (b, p) → First (products (edges c) l) b × (p ≡ get_or (products (edges c) l) b nan)

@@ -28,15 +28,15 @@ pub record Ranking : Type 0 where
   pub zeros : paper (heard 9 (beside60 2 0x80000000 0)) ≡ of_quiet
   -- "An overflow ranking as infinity": above the greatest f32 in a band of one line; and of two infinities the first, though its energy is the smaller one.
   pub overflow : paper (heard 9 (beside60 2 0x7f7fffff 0x7f000000)) ≡ of_loud 60 (inf false)
-  pub two-infinities : paper (heard 9 (beside60 50 0x7f000000 0x7f7fffff)) ≡ of_loud 50 (inf false)
+  pub two_infinities : paper (heard 9 (beside60 50 0x7f000000 0x7f7fffff)) ≡ of_loud 50 (inf false)
   -- Energies that a measurement gave, of any nf lines that pass 6, have products that are finite: an overflow is of energies from elsewhere.
-  pub never-infinite : (c : ℕ) → T (valid c) → (l : List Float) → length l ≡ nf c → Each (λ x. T (passes6 x)) l → Each Finite (products (edges c) (energies_of c l))
+  pub never_infinite : (c : ℕ) → T (valid c) → (l : List Float) → length l ≡ nf c → Each (λ x. T (passes6 x)) l → Each Finite (products (edges c) (energies_of c l))
   -- "1 is tested there before 5": configuration 20, whatever the energies and how many.
-  pub config-first : (l : List Float) → paper (heard 20 l) ≡ of_refusal bad_config 0
+  pub config_first : (l : List Float) → paper (heard 20 l) ≡ of_refusal bad_config 0
   -- "5, now for exactly nb": 60 energies at a configuration of 64 bands, and 64 at one of 60.
   pub sixty : paper (heard 9 (replicate 60 zero32)) ≡ of_refusal bad_energies 0
-  pub sixty-four : paper (heard 0 (replicate 64 zero32)) ≡ of_refusal bad_energies 0
+  pub sixty_four : paper (heard 0 (replicate 64 zero32)) ≡ of_refusal bad_energies 0
   -- "and 7", after both: sixty NaNs.
-  pub length-first : paper (heard 9 (replicate 60 nan)) ≡ of_refusal bad_energies 0
+  pub length_first : paper (heard 9 (replicate 60 nan)) ≡ of_refusal bad_energies 0
   -- A NaN at two places: 7, with the first.
-  pub two-nans : paper (heard 9 (beside60 2 0x7fc00000 0x7fc00000)) ≡ of_refusal bad_energy 2
+  pub two_nans : paper (heard 9 (beside60 2 0x7fc00000 0x7fc00000)) ≡ of_refusal bad_energy 2

@@ -62,7 +62,7 @@ abbrev pub numbers : Channel → List (List ℤ) → List ℕ
 numbers a [] = []
 numbers a (x ∷ xs) = (framed a x).0.number ∷ (measured a x).number ∷ (paper (heard a.config (measured a x).energies)).number ∷ numbers (framed a x).1 xs
 
--- P holds of the configuration and the lines of an accepted frame, "for any samples and any history from a clear": after any calls at all, as `by-definition` of
+-- P holds of the configuration and the lines of an accepted frame, "for any samples and any history from a clear": after any calls at all, as `by_definition` of
 -- demand 3 has them
 abbrev pub FromClear : (ℕ → List Float → Type 0) → Type 0
 FromClear P = (c : ℕ) (a : Channel) → clears analysis c ≡ some a → (qs : List (Call Lent)) → Each Sampled qs → (x : Lent) → Each Sample x.input
@@ -75,17 +75,17 @@ OnAny P = (a : Channel) → Each Sample a.samples → (x : Lent) → Each Sample
 pub record NoOverflow : Type 0 where
   -- "every line is finite and at most 2^30 in magnitude"
   pub lines : FromClear Lines
-  pub lines-anywhere : OnAny Lines
+  pub lines_anywhere : OnAny Lines
   -- "every energy finite, not below zero and at most 2^61"
   pub energies : FromClear Energies
-  pub energies-anywhere : OnAny Energies
+  pub energies_anywhere : OnAny Energies
   -- So the loudest band, told the frame's configuration, never refuses the energies of an accepted frame.
-  pub heard-anywhere : OnAny Hears
+  pub heard_anywhere : OnAny Hears
   -- So in the listing of a file of any bytes neither a frame nor its lines nor its energies are refused.
   pub listed : (c : ℕ) → T (valid c) → (bytes : List ℕ) → Each (λ n. n ≡ refusals.accepted) (numbers (cleared c).channel (contents c bytes).frames)
   -- The energies of any nf lines that pass 6 pass 7, since a line's square is at most 2^120; and the loudest band, told that configuration, takes them.
   pub measured : (c : ℕ) → T (valid c) → (l : List Float) → length l ≡ nf c → Each (λ x. T (passes6 x)) l → Each (λ x. T (passes7 x)) (energies_of c l)
-  pub measured-heard : (c : ℕ) → T (valid c) → (l : List Float) → length l ≡ nf c → Each (λ x. T (passes6 x)) l → (paper (heard c (energies_of c l))).number ≡ refusals.accepted
+  pub measured_heard : (c : ℕ) → T (valid c) → (l : List Float) → length l ≡ nf c → Each (λ x. T (passes6 x)) l → (paper (heard c (energies_of c l))).number ≡ refusals.accepted
   -- "in synthesis, for lines that pass 6 with any history from a clear, every sample .. is finite": a frame with another line is refused
   pub samples : (c : ℕ) (a : synthesis_channel.Channel) → clears synthesis c ≡ some a → (qs : List (Call synthesis_calls.Lent)) (x : synthesis_calls.Lent)
       → (synthesis_calls.frames (after synthesis a qs) x).0.number ≡ refusals.accepted → Each Finite (synthesis_calls.frames (after synthesis a qs) x).0.samples
@@ -110,10 +110,10 @@ both r i = parts (of_int binary32 r) (of_int binary32 i)
 
 pub record Reached : Type 0 where
   -- It is false that every line is at most 2^16 in magnitude.
-  pub line-above : Within (2 ^ 16) 1 line0 → ⊥
+  pub line_above : Within (2 ^ 16) 1 line0 → ⊥
   -- It is false that every energy is at most 2^32.
-  pub energy-above : Within (2 ^ 32) 1 energy0 → ⊥
+  pub energy_above : Within (2 ^ 32) 1 energy0 → ⊥
   -- Of a line of 2^64 and 59 zeros, which are finite, energy 0 is infinite: it is false that the energies of any finite lines pass 7.
-  pub square-is : get_or (energies_of 0 (of_bits binary32 0x5f800000 ∷ replicate 59 zero32)) 0 nan ≡ inf false
+  pub square_is : get_or (energies_of 0 (of_bits binary32 0x5f800000 ∷ replicate 59 zero32)) 0 nan ≡ inf false
   -- In radix 5 a column of 1, and of 2 where it is twiddled, comes to 17 under twiddles of 1, in each part: it is false that `fives` holds with 2^4.
-  pub column-is : (five (both (pos 1) (pos 1)) (both (pos 1) (pos 1)) (col (both (pos 1) (pos 1) ∷ both (pos 2) (negsuc 1) ∷ both (pos 2) (negsuc 1) ∷ both (pos 2) (pos 2) ∷ both (pos 2) (pos 2) ∷ [])) 1).r ≡ of_int binary32 (pos 17)
+  pub column_is : (five (both (pos 1) (pos 1)) (both (pos 1) (pos 1)) (col (both (pos 1) (pos 1) ∷ both (pos 2) (negsuc 1) ∷ both (pos 2) (negsuc 1) ∷ both (pos 2) (pos 2) ∷ both (pos 2) (pos 2) ∷ [])) 1).r ≡ of_int binary32 (pos 17)

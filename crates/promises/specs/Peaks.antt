@@ -69,10 +69,10 @@ pub record Peaks : Type 0 where
   pub second : last 0x3f800000 0x40000000 ≡ 39
   -- Equal products, the first: 1.0 and -1.0; 2^60 twice.
   pub twins : last 0x3f800000 0xbf800000 ≡ 38
-  pub at-the-bound : last 0x5d800000 0x5d800000 ≡ 38
+  pub at_the_bound : last 0x5d800000 0x5d800000 ≡ 38
   -- A band of zeros, of either sign: its first line.
   pub zeros : last 0x00000000 0x80000000 ≡ 38
-  pub minus-zeros : last 0x80000000 0x00000000 ≡ 38
+  pub minus_zeros : last 0x80000000 0x00000000 ≡ 38
   -- By the product, not by the line: those of 2^-80 and 2^-79 are both 0, and so are those of subnormal lines.
   pub vanishing : last 0x17800000 0x18000000 ≡ 38
   pub subnormal : last 0x00000001 0x007fffff ≡ 38

@@ -87,8 +87,8 @@ module _ (k : Kind) where
   pub data Shared (c : ℕ) : List (Call k.Lent) → List (Call k.Lent) → Type 0 where
     over : Shared c [] []
     both : {f g : k.Lent} {qs rs : List (Call k.Lent)} → k.own f ≡ k.own g → T (accepts c f) → T (accepts c g) → Shared c qs rs → Shared c (frame f ∷ qs) (frame g ∷ rs)
-    one-refused : {q : Call k.Lent} {qs rs : List (Call k.Lent)} → T (refuses c q) → Shared c qs rs → Shared c (q ∷ qs) rs
-    other-refused : {q : Call k.Lent} {qs rs : List (Call k.Lent)} → T (refuses c q) → Shared c qs rs → Shared c qs (q ∷ rs)
+    one_refused : {q : Call k.Lent} {qs rs : List (Call k.Lent)} → T (refuses c q) → Shared c qs rs → Shared c (q ∷ qs) rs
+    other_refused : {q : Call k.Lent} {qs rs : List (Call k.Lent)} → T (refuses c q) → Shared c qs rs → Shared c qs (q ∷ rs)
 
   -- two channels agree: on the configuration, on the samples or memory, and on every bit that they give for an accepted frame that they share
   pub record Agree (a b : k.Channel) : Type 0 where
@@ -100,7 +100,7 @@ module _ (k : Kind) where
   pub record Demand3 : Type 0 where
     -- Over any calls on a channel that an accepted clear gave, what a frame call gives is the definition's value on the configuration of the last
     -- accepted clear, that frame, and the frame accepted before it since that clear, if there was one.
-    pub by-definition : (c : ℕ) (a : k.Channel) → clears c ≡ some a → (qs : List (Call k.Lent)) (x : k.Lent)
+    pub by_definition : (c : ℕ) (a : k.Channel) → clears c ≡ some a → (qs : List (Call k.Lent)) (x : k.Lent)
         → (k.frames (after a qs) x).0 ≡ defined (recall (fresh c) qs).config (recall (fresh c) qs).before x
     -- In plain steps: after an accepted clear, and refused calls alone, what a frame call gives is the value with no frame before it.
     pub first : (a : k.Channel) (c : ℕ) → T (valid c) → (qs : List (Call k.Lent)) → Idle c qs → (x : k.Lent) → (k.frames (after a (clear c ∷ qs)) x).0 ≡ defined c none x

@@ -7,7 +7,8 @@ use Rattle.laws.specs.Numbers.{zero32}
 use Rattle.laws.specs.Lists.{first}
 use Rattle.laws.specs.Passes.{passes6, passes7}
 use Rattle.config.specs.Config.{largest, valid, configs, nf, nb, rate, upper}
-use Rattle.refusals.specs.Refusals.{accepted, bad_config, bad_energies, bad_energy}
+use Rattle.refusals.specs.Refusals.{accepted}
+use Rattle.refusals.specs.Refusals as refusals
 use Rattle.measurement.specs.Measurement.{energies_of, flag_of}
 use Rattle.bounds.specs.Within.{Each}
 use Rattle.near_nyquist.specs.Sooner.{bound, upper_sum, told, refusal, asked}
@@ -57,12 +58,12 @@ pub record Sooner : Type 0 where
   pub measured : (c : ℕ) (l : List Float) → T (valid c) → length l ≡ nf c → Each (λ x. T (passes6 x)) l
       → ((asked c (energies_of c l)).number ≡ accepted) × ((asked c (energies_of c l)).answer ≡ flag_of c (energies_of c l))
   -- "Refusals: 1, 5, then 7 over all energies before any adding"; beside them no, and 0
-  pub no-config : (c : ℕ) (l : List Float) → largest < c → asked c l ≡ refusal bad_config 0
-  pub bad-energies : (c : ℕ) (l : List Float) → c ≤ largest → (length l ≡ nb c → ⊥) → asked c l ≡ refusal bad_energies 0
-  pub bad-energy : (c : ℕ) (l : List Float) → c ≤ largest → length l ≡ nb c → first passes7 l < length l → asked c l ≡ refusal bad_energy (first passes7 l)
+  pub no_config : (c : ℕ) (l : List Float) → largest < c → asked c l ≡ refusal refusals.bad_config 0
+  pub bad_energies : (c : ℕ) (l : List Float) → c ≤ largest → (length l ≡ nb c → ⊥) → asked c l ≡ refusal refusals.bad_energies 0
+  pub bad_energy : (c : ℕ) (l : List Float) → c ≤ largest → length l ≡ nb c → first passes7 l < length l → asked c l ≡ refusal refusals.bad_energy (first passes7 l)
   -- At each configuration, 30.0 in the first upper band and 1.0 below: no, with nb; one step above: yes, with that band. At 48 kHz no, and 0
-  pub at-the-edge : map (λ c. asked c (edge c 0x41f00000)) configs ≡ map (λ c. told false (cond (leb (rate c) 32000) (nb c) 0)) configs
-  pub above-it : map (λ c. asked c (edge c 0x41f00001)) configs ≡ map (λ c. cond (leb (rate c) 32000) (told true (split c + 1)) (told false 0)) configs
+  pub at_the_edge : map (λ c. asked c (edge c 0x41f00000)) configs ≡ map (λ c. told false (cond (leb (rate c) 32000) (nb c) 0)) configs
+  pub above_it : map (λ c. asked c (edge c 0x41f00001)) configs ≡ map (λ c. cond (leb (rate c) 32000) (told true (split c + 1)) (told false 0)) configs
   -- 16.0 twice is above 30.0, with the second of the two: in the middle, and last
   pub middle : asked 1 (bands 0x3f800000 0 0x41800000 0x41800000 0 0) ≡ told true 62
   pub last : asked 1 (bands 0x3f800000 0 0x41800000 0 0 0x41800000) ≡ told true 64
@@ -70,17 +71,17 @@ pub record Sooner : Type 0 where
   pub never : asked 1 (bands 0x3f800000 0 0x41000000 0x41000000 0x41000000 0x40c00000) ≡ told false 64
   -- zeros of both signs do not exceed zero, and the last lower band is no upper one
   pub zeros : asked 1 (bands 0x80000000 0 0x80000000 0 0 0x80000000) ≡ told false 64
-  pub last-lower : asked 1 (bands 0 0x3f800000 0 0 0 0) ≡ told false 64
+  pub last_lower : asked 1 (bands 0 0x3f800000 0 0 0 0) ≡ told false 64
   -- 2^127 twice overflows above 30.0 · 2^123. A lower sum that overflows, and 30.0 · 2^124, are exceeded by nothing
-  pub upper-overflow : asked 1 (bands 0x7d000000 0 0x7f000000 0x7f000000 0 0) ≡ told true 62
-  pub lower-overflow : asked 1 (bands 0x7f7fffff 0x7f7fffff 0x7f7fffff 0x7f7fffff 0x7f7fffff 0x7f7fffff) ≡ told false 64
-  pub bound-overflow : asked 1 (bands 0x7d800000 0 0x7f7fffff 0x7f7fffff 0x7f7fffff 0x7f7fffff) ≡ told false 64
+  pub upper_overflow : asked 1 (bands 0x7d000000 0 0x7f000000 0x7f000000 0 0) ≡ told true 62
+  pub lower_overflow : asked 1 (bands 0x7f7fffff 0x7f7fffff 0x7f7fffff 0x7f7fffff 0x7f7fffff 0x7f7fffff) ≡ told false 64
+  pub bound_overflow : asked 1 (bands 0x7d800000 0 0x7f7fffff 0x7f7fffff 0x7f7fffff 0x7f7fffff) ≡ told false 64
   -- 7 is tested of the bands that it would not have read: after the one that it would have stopped at, and at 48 kHz. Of two, the first is told
-  pub behind-it : asked 1 (bands 0x3f800000 0 0x41f00001 0 0 0x7fc00000) ≡ refusal bad_energy 63
-  pub unread : asked 4 (bands 0x3f800000 0 0 0 0 0x7f800000) ≡ refusal bad_energy 63
-  pub two-bad : asked 1 (bands 0x3f800000 0xbf800000 0x41f00001 0 0 0x7fc00000) ≡ refusal bad_energy 59
+  pub behind_it : asked 1 (bands 0x3f800000 0 0x41f00001 0 0 0x7fc00000) ≡ refusal refusals.bad_energy 63
+  pub unread : asked 4 (bands 0x3f800000 0 0 0 0 0x7f800000) ≡ refusal refusals.bad_energy 63
+  pub two_bad : asked 1 (bands 0x3f800000 0xbf800000 0x41f00001 0 0 0x7fc00000) ≡ refusal refusals.bad_energy 59
   -- 1 before 5, 5 before 7: sixty NaNs at a configuration of 64 bands, at 48 kHz too, and 64 zeros at one of 60
-  pub config-first : (l : List Float) → asked 20 l ≡ refusal bad_config 0
-  pub length-first : asked 1 (replicate 60 nan) ≡ refusal bad_energies 0
-  pub sixty : asked 9 (replicate 60 nan) ≡ refusal bad_energies 0
-  pub sixty-four : asked 0 (replicate 64 zero32) ≡ refusal bad_energies 0
+  pub config_first : (l : List Float) → asked 20 l ≡ refusal refusals.bad_config 0
+  pub length_first : asked 1 (replicate 60 nan) ≡ refusal refusals.bad_energies 0
+  pub sixty : asked 9 (replicate 60 nan) ≡ refusal refusals.bad_energies 0
+  pub sixty_four : asked 0 (replicate 64 zero32) ≡ refusal refusals.bad_energies 0

@@ -46,9 +46,9 @@ last c s = drop (nf c - z c) s
 pub record SynthesisDemand3 : Type 0 where
   pub sequence : Demand3 synthesis
   -- The last z samples of an accepted frame are of its own lines alone: places nf to nf + z - 1 of theirs, as they are.
-  pub last-alone : (a : Channel) (f : Lent) → T (accepts synthesis a.config f)
+  pub last_alone : (a : Channel) (f : Lent) → T (accepts synthesis a.config f)
       → last a.config (frames a f).0.samples ≡ take (z a.config) (drop (nf a.config) (places_of a.config f.lines))
   -- So two channels of one configuration, whatever their memories, agree on them already on the first accepted frame that they share (an empty claim where z is 0).
-  pub last-agree : (a b : Channel) → a.config ≡ b.config
+  pub last_agree : (a b : Channel) → a.config ≡ b.config
       → (f g : Lent) → f.lines ≡ g.lines → T (accepts synthesis a.config f) → T (accepts synthesis b.config g)
       → last a.config (frames a f).0.samples ≡ last b.config (frames b g).0.samples

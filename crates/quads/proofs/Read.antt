@@ -61,14 +61,14 @@ exchange4 true u m j c = refl
 pub record Sides (inverse : Bool) (m s : ℕ) : Type 0 where
   pub low : s ≤ 3
   pub second_is : s ≡ exchanged inverse 1
-  pub fourth-is : 4 - s ≡ exchanged inverse 3
-  pub second-in : m * s ≤ m * 3
-  pub fourth-in : m * (4 - s) ≤ m * 3
+  pub fourth_is : 4 - s ≡ exchanged inverse 3
+  pub second_in : m * s ≤ m * 3
+  pub fourth_in : m * (4 - s) ≤ m * 3
 
 pub sides : (inverse : Bool) (m s : ℕ) → s ≡ exchanged inverse 1 → Sides inverse m s
 unfolding exchanged
-sides false m s e = rw e (record { low = omega arith; second_is = refl; fourth-is = refl; second-in = omega arith; fourth-in = omega arith })
-sides true m s e = rw e (record { low = omega arith; second_is = refl; fourth-is = refl; second-in = omega arith; fourth-in = omega arith })
+sides false m s e = rw e (record { low = omega arith; second_is = refl; fourth_is = refl; second_in = omega arith; fourth_in = omega arith })
+sides true m s e = rw e (record { low = omega arith; second_is = refl; fourth_is = refl; second_in = omega arith; fourth_in = omega arith })
 
 pub exchanged_0 : (inverse : Bool) (i m : ℕ) → i ≡ i + m * exchanged inverse 0
 unfolding exchanged

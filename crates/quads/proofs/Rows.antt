@@ -38,13 +38,13 @@ module _ (g : ℕ → Complex) (k : ℕ) (v : ℕ → Complex) where
         | no ne ↦ upd_other _ _ _ _ (λ e. ne (omega arith)) ∙ writes_at n c (omega arith)
       ]
 
-  writes-off : (n j : ℕ) → ((c : ℕ) → c < n → j ≡ k + c → ⊥) → writes g k v n j ≡ g j
-  writes-off zero j off = refl
-  writes-off (suc n) j off = upd_other _ _ _ _ (off n (omega arith)) ∙ writes-off n j (λ c l. off c (omega arith))
+  writes_off : (n j : ℕ) → ((c : ℕ) → c < n → j ≡ k + c → ⊥) → writes g k v n j ≡ g j
+  writes_off zero j off = refl
+  writes_off (suc n) j off = upd_other _ _ _ _ (off n (omega arith)) ∙ writes_off n j (λ c l. off c (omega arith))
 
-  pub writes-ext : (w : ℕ → Complex) (n : ℕ) → ((c : ℕ) → c < n → v c ≡ w c) → writes g k v n ≡ writes g k w n
-  writes-ext w zero e = refl
-  writes-ext w (suc n) e = ap₂ (λ (f : ℕ → Complex) (x : Complex). upd f (k + n) x) (writes-ext w n (λ c l. e c (omega arith))) (e n (omega arith))
+  pub writes_ext : (w : ℕ → Complex) (n : ℕ) → ((c : ℕ) → c < n → v c ≡ w c) → writes g k v n ≡ writes g k w n
+  writes_ext w zero e = refl
+  writes_ext w (suc n) e = ap₂ (λ (f : ℕ → Complex) (x : Complex). upd f (k + n) x) (writes_ext w n (λ c l. e c (omega arith))) (e n (omega arith))
 
 -- n columns from i on, written part by part
 module _ (n m : ℕ) (g : ℕ → Complex) (i : ℕ) (o : ℕ → ℕ) (v : ℕ → ℕ → Complex) (h : i + n ≤ m) where
@@ -61,15 +61,15 @@ module _ (n m : ℕ) (g : ℕ → Complex) (i : ℕ) (o : ℕ → ℕ) (v : ℕ 
             let place : k ≡ i + m * o p + c = sym (mod-add-div k m) ∙ ap₂ (λ (x y : ℕ). x + m * y) e here ∙ omega arith in
             ap (writes (rows n m g i o v p) (i + m * o p) (λ c. v c (o p)) n) place ∙ writes_at _ _ _ n c l ∙ ap (v c) (sym here)
         | no ne ↦
-            writes-off _ _ _ n k (λ c2 l2 e2. ne (spot (o p) c2 k l2 e2).1)
+            writes_off _ _ _ n k (λ c2 l2 e2. ne (spot (o p) c2 k l2 e2).1)
             ∙ rows_at p k c q l e (elim (ℕ_discrete q p) [ yes last ↦ absurd (ne (s ∙ ap o last)) | no lower ↦ omega arith ]) s
       ]
 
-  pub rows-off : (p k : ℕ) → ((c q : ℕ) → c < n → q < p → k % m ≡ i + c → k / m ≡ o q → ⊥) → rows n m g i o v p k ≡ g k
-  rows-off zero k off = refl
-  rows-off (suc p) k off =
-      writes-off _ _ _ n k (λ c l e. off c p l (omega arith) (spot (o p) c k l e).0 (spot (o p) c k l e).1)
-      ∙ rows-off p k (λ c q l b. off c q l (omega arith))
+  pub rows_off : (p k : ℕ) → ((c q : ℕ) → c < n → q < p → k % m ≡ i + c → k / m ≡ o q → ⊥) → rows n m g i o v p k ≡ g k
+  rows_off zero k off = refl
+  rows_off (suc p) k off =
+      writes_off _ _ _ n k (λ c l e. off c p l (omega arith) (spot (o p) c k l e).0 (spot (o p) c k l e).1)
+      ∙ rows_off p k (λ c q l b. off c q l (omega arith))
 
 -- an order that goes through the p parts, and is its own inverse
 pub record Through (p : ℕ) (o : ℕ → ℕ) : Type 0 where
@@ -97,7 +97,7 @@ exchange true = record {
 
 -- the numbers x are written
 put_done : (g : ℕ → Complex) (k n : ℕ) (w : ℕ → Complex) (x : List Complex) → x ≡ tab n w → writes g k (col x) n ≡ writes g k w n
-put_done g k n w x e = writes-ext g k (col x) w n (λ c l. ap (λ (y : List Complex). col y c) e ∙ get_or-tab n w (parts nan nan) c l)
+put_done g k n w x e = writes_ext g k (col x) w n (λ c l. ap (λ (y : List Complex). col y c) e ∙ get_or-tab n w (parts nan nan) c l)
 
 -- Columns of f from i on, read and turned by b into structs: `of` makes one of a column, and part o q of it stands in the struct at π. One more part is written,
 -- whatever the radix.
@@ -116,9 +116,9 @@ module _ {X : Type 0} (of : (ℕ → Complex) → X) (m : ℕ) (o : ℕ → ℕ)
       stored ∙ rw (before, place) (put_done (turned_columns 4 q m o b i f) (i + m * o q) 4 (λ c. turned m b f (i + c) (o q)) _ read)
 
   -- of one, to place k
-  pub place-more : {A : X} → A ≡ of (turned m b f i) → (q : ℕ) (π : X → Complex) (k : ℕ) (g h : ℕ → Complex) → ((c : ℕ → Complex) → π (of c) ≡ c (o q)) → k ≡ i + m * o q
+  pub place_more : {A : X} → A ≡ of (turned m b f i) → (q : ℕ) (π : X → Complex) (k : ℕ) (g h : ℕ → Complex) → ((c : ℕ → Complex) → π (of c) ≡ c (o q)) → k ≡ i + m * o q
       → g ≡ turned_columns 1 q m o b i f → h ≡ upd g k (π A) → h ≡ turned_columns 1 (suc q) m o b i f
-  place-more {A} ea q π k g h is place before stored =
+  place_more {A} ea q π k g h is place before stored =
       let at-k : k ≡ i + m * o q + 0 = omega arith in
       stored ∙ ap₂ (λ (g : ℕ → Complex) (j : ℕ). upd g j (π A)) before at-k
       ∙ ap (λ (x : Complex). upd (turned_columns 1 q m o b i f) (i + m * o q + 0) x) (ap π (here A ea) ∙ is _)

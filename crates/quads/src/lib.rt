@@ -1,6 +1,9 @@
 // One column of a block, and four neighbouring columns, turned in place: read with their twiddles, which stand one beside the other, and then written.
 // Four columns are all read before any is written, part by part, so that the compiler turns them at once.
 // Ported from kf_bfly2, kf_bfly3 and kf_bfly4 of src/common/kissfft.rs of lc3-codec 0.2.0, and changed: the body of each loop in functions of its own.
+
+#![tactic(auto)]
+
 ghost use Rattle.std.specs.Prelude.{◌≡◌, false, [], ◌∷◌, ◌+◌, ◌<◌, ◌≤◌, length};
 ghost use Rattle.complex.specs.Complex.{times, at};
 ghost use Rattle.columns.specs.Column.{col, of2, of3, of4};

@@ -8,7 +8,7 @@ use native.Mathlib.Omega.{arith}
 use lib.Dec.{T, eqb, eqb→eq}
 use lib.ListN.{length}
 use lib.Ieee.{Float}
-use borrow.Author.Tests.{not_true, not-false, eq-eqb, ne_eqb}
+use borrow.Author.Tests.{not-true, not-false, eq-eqb, ne_eqb}
 use Rattle.laws.specs.Lists.{first}
 use Rattle.laws.specs.Passes.{passes7}
 use Rattle.laws.proofs.Lists.{first-le}
@@ -18,28 +18,28 @@ use Rattle.refusals.specs.Refusals.{accepted, bad_config, bad_energies, bad_ener
 
 -- v, n and k are what the code has for the configuration's being one, its number of bands, and the first energy that does not pass
 module _ (c : ℕ) (l : List Float) {v : Bool} (ev : v ≡ valid c) where
-  pub gives-1 : not v ≡ true → told bad_config ≡ on_energies c l
+  pub gives_1 : not v ≡ true → told bad_config ≡ on_energies c l
   unfolding on_energies
-  gives-1 h = rw (sym ev ∙ not_true v h)
+  gives_1 h = rw (sym ev ∙ not-true v h)
 
   module _ (h : not v ≡ false) {n : ℕ} (en : n ≡ nb c) where
     ok : valid c ≡ true
     ok = sym ev ∙ not-false v h
 
-    pub gives-5 : (length l ≡ n → ⊥) → told bad_energies ≡ on_energies c l
+    pub gives_5 : (length l ≡ n → ⊥) → told bad_energies ≡ on_energies c l
     unfolding on_energies
-    gives-5 g = rw (ok, ne_eqb (length l) (nb c) (λ e. g (e ∙ sym en)))
+    gives_5 g = rw (ok, ne_eqb (length l) (nb c) (λ e. g (e ∙ sym en)))
 
     module _ (e : length l ≡ n) {k : ℕ} (ek : k ≡ first passes7 l) where
-      pub gives-7 : k < length l → ◌≡◌ {A = Verdict} (record { number = bad_energy; index = k }) (on_energies c l)
+      pub gives_7 : k < length l → ◌≡◌ {A = Verdict} (record { number = bad_energy; index = k }) (on_energies c l)
       unfolding on_energies
-      gives-7 g =
+      gives_7 g =
           rw (ok, eq-eqb (length l) (nb c) (e ∙ en), ne_eqb (first passes7 l) (length l) (λ q. omega arith))
           (ap (λ i. record { number = bad_energy; index = i }) ek)
 
-      pub gives-0 : length l ≤ k → told accepted ≡ on_energies c l
+      pub gives_0 : length l ≤ k → told accepted ≡ on_energies c l
       unfolding on_energies
-      gives-0 g = rw (ok, eq-eqb (length l) (nb c) (e ∙ en), eq-eqb (first passes7 l) (length l) (omega (arith, ek, first-le passes7 l)))
+      gives_0 g = rw (ok, eq-eqb (length l) (nb c) (e ∙ en), eq-eqb (first passes7 l) (length l) (omega (arith, ek, first-le passes7 l)))
 
 -- a chain of three refusals, over its tests
 abbrev chain : {A : Type 0} → (ℕ → ℕ → A) → A → Bool → Bool → Bool → ℕ → A
@@ -49,17 +49,17 @@ abbrev verdicts : Bool → Bool → Bool → ℕ → Verdict
 verdicts = chain (λ n i. record { number = n; index = i }) (told accepted)
 
 module _ {A : Type 0} (refusal : ℕ → ℕ → A) (answer : A) where
-  chain-refused : (p q r : Bool) (i : ℕ) (v : Verdict) → v ≡ verdicts p q r i → (v.number ≡ 0 → ⊥) → refusal v.number v.index ≡ chain refusal answer p q r i
-  chain-refused false q r i v e h = ap (λ (w : Verdict). refusal w.number w.index) e
-  chain-refused true false r i v e h = ap (λ (w : Verdict). refusal w.number w.index) e
-  chain-refused true true false i v e h = ap (λ (w : Verdict). refusal w.number w.index) e
-  chain-refused true true true i v e h = absurd (h (ap (λ (w : Verdict). w.number) e))
+  chain_refused : (p q r : Bool) (i : ℕ) (v : Verdict) → v ≡ verdicts p q r i → (v.number ≡ 0 → ⊥) → refusal v.number v.index ≡ chain refusal answer p q r i
+  chain_refused false q r i v e h = ap (λ (w : Verdict). refusal w.number w.index) e
+  chain_refused true false r i v e h = ap (λ (w : Verdict). refusal w.number w.index) e
+  chain_refused true true false i v e h = ap (λ (w : Verdict). refusal w.number w.index) e
+  chain_refused true true true i v e h = absurd (h (ap (λ (w : Verdict). w.number) e))
 
   module _ (c : ℕ) (l : List Float) (v : Verdict) (e : v ≡ on_energies c l) where
     -- a refused call gives the verdict's own number and index
     pub gives-refusal : (v.number ≡ 0 → ⊥) → refusal v.number v.index ≡ judged refusal answer c l
     unfolding on_energies
-    gives-refusal h = chain-refused (valid c) (eqb (length l) (nb c)) (eqb (first passes7 l) (length l)) (first passes7 l) v e h
+    gives-refusal h = chain_refused (valid c) (eqb (length l) (nb c)) (eqb (first passes7 l) (length l)) (first passes7 l) v e h
 
 -- what energies that are not refused have passed
 pub record Passed (c : ℕ) (l : List Float) : Type 0 where

@@ -1,4 +1,7 @@
 // The refusals: their numbers by name, what a call is told of one, and the tests that several calls make alike. New in this port.
+
+#![tactic(auto)]
+
 ghost use Rattle.std.specs.Prelude.{◌≡◌};
 ghost use Rattle.refusals.specs.Refusals.{told, on_clear, on_values, on_energies};
 
@@ -29,7 +32,7 @@ pub const CUT_FRAME: u8 = 11;
 
 // What a call is told of its refusal: the number, 0 where it is accepted, and for numbers 6 and 7 the place.
 #[repr(C)]
-#[derive(Drop)]
+#[derive(Clone, Copy)]
 pub struct Verdict {
     pub number: u8,
     pub index: usize,
@@ -45,7 +48,7 @@ impl Verdict {
 }
 
 // What a clear is told, and the configuration of the channel that it gives.
-#[derive(Drop)]
+#[derive(Clone, Copy)]
 pub struct Clear {
     pub number: u8,
     pub config: u8,

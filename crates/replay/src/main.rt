@@ -1,6 +1,9 @@
 // Replays a log of calls: reads it on standard input, makes each call, and prints what the library answers.
 // What a call's bytes mean is proved in call_log, its answer in call_made, its text in call_text, and how a step puts them together here. Of what
 // reads and writes nothing is stated but that it is safe and ends.
+
+#![tactic(auto)]
+
 ghost use Rattle.std.specs.Prelude.{◌≤◌, ◌≡◌, length};
 ghost use Rattle.call_text.specs.Page.{page, written};
 ghost use Rattle.replay.specs.Unused.{Unused};
@@ -8,7 +11,6 @@ ghost use Rattle.replay.specs.Steps.{answer_text, made_text, last_text, taken_of
 
 use call_log::Taken;
 use call_made::{Answer, Bench};
-use libc::{STDERR_FILENO, STDIN_FILENO, STDOUT_FILENO};
 
 // The longest call: an FFT with 1,024 values in each slice.
 const LONGEST: usize = 8204;
@@ -17,7 +19,7 @@ const LONGEST: usize = 8204;
 const ANSWER: usize = 24576;
 
 // The bytes of the input that are not used yet; over where the log has no more.
-#[derive(Drop)]
+#[derive(Clone, Copy)]
 struct Input {
     from: usize,
     to: usize,
@@ -25,7 +27,7 @@ struct Input {
 }
 
 // A bench, how far the output is filled, and how many bytes the call before took: 0 after the last line.
-#[derive(Drop)]
+#[derive(Clone, Copy)]
 struct Stepped {
     bench: Bench,
     at: usize,
@@ -142,7 +144,7 @@ fn to_front(input: &mut [u8], from: usize, to: usize) -> usize
 }
 
 // The input with a longest call in it, or all that is left.
-fn ready(input: &mut [u8], at: Input) -> Input
+fn ready(rt: &HostRuntime, input: &mut [u8], at: Input) -> Input
     requires { Unused at.from at.to (length input.old) }
     ensures { Unused result.from result.to (length input.new) }
 {
@@ -151,7 +153,8 @@ fn ready(input: &mut [u8], at: Input) -> Input
     }
     let kept = to_front(input, at.from, at.to);
     let room = &mut input[kept..];
-    let n = io::read_full(STDIN_FILENO, room);
+    let mut stdin = rt.stdin();
+    let n = streams::read_full(&mut stdin, room);
     Input {
         from: 0,
         to: kept + n,
@@ -161,34 +164,41 @@ fn ready(input: &mut [u8], at: Input) -> Input
 
 // ---- the output
 
+// A line on standard error.
+fn tell(rt: &HostRuntime, line: &[u8]) {
+    let mut stderr = rt.stderr();
+    streams::write_all(&mut stderr, line);
+}
+
 // Writes out what the output holds, and gives the place to go on at: the output's end where a write failed or a text found no room.
-fn flush(out: &[u8], at: usize) -> usize {
+fn flush(rt: &HostRuntime, out: &[u8], at: usize) -> usize {
     if out.len() <= at {
-        io::write_all(STDERR_FILENO, b"replay: the text is cut\n");
+        tell(rt, b"replay: the text is cut\n");
         return out.len();
     }
-    if !io::write_all(STDOUT_FILENO, &out[..at]) {
-        io::write_all(STDERR_FILENO, b"replay: a write failed\n");
+    let mut stdout = rt.stdout();
+    if !streams::write_all(&mut stdout, &out[..at]) {
+        tell(rt, b"replay: a write failed\n");
         return out.len();
     }
     0
 }
 
 // The place to go on at, with room for an answer after it.
-fn room(out: &[u8], at: usize) -> usize {
+fn room(rt: &HostRuntime, out: &[u8], at: usize) -> usize {
     if out.len() <= at {
         return at;
     }
     if ANSWER <= out.len() - at {
         return at;
     }
-    flush(out, at)
+    flush(rt, out, at)
 }
 
 // ---- the run
 
 // The calls after the header, one after the other, as long as they can be counted. How far the output is filled.
-fn calls(input: &mut [u8], out: &mut [u8], header: Input) -> usize
+fn calls(rt: &HostRuntime, input: &mut [u8], out: &mut [u8], header: Input) -> usize
     requires { Unused header.from header.to (length input.old) }
 {
     let mut unused = header;
@@ -196,7 +206,7 @@ fn calls(input: &mut [u8], out: &mut [u8], header: Input) -> usize
     let mut at = 0;
     let mut count = 0u64;
     while count < u64::MAX {
-        unused = ready(input, unused);
+        unused = ready(rt, input, unused);
         let from = unused.from;
         let to = unused.to;
         let step = step(bench, &input[from..to], out, at, count);
@@ -205,21 +215,23 @@ fn calls(input: &mut [u8], out: &mut [u8], header: Input) -> usize
         if step.used == 0 {
             return step.at;
         }
-        at = room(out, step.at);
+        at = room(rt, out, step.at);
         count += 1;
     }
     at
 }
 
 // The whole log.
-fn run(input: &mut [u8], out: &mut [u8]) -> usize {
-    let n = io::read_full(STDIN_FILENO, input);
+fn run(rt: &HostRuntime, input: &mut [u8], out: &mut [u8]) -> usize {
+    let mut stdin = rt.stdin();
+    let n = streams::read_full(&mut stdin, input);
     let number = call_log::header_number(call_log::read_header(&input[..n]));
     if number != refusals::ACCEPTED {
         return call_text::put_last(out, 0, b"refused", number as u64);
     }
     let is_over = n < input.len();
     calls(
+        rt,
         input,
         out,
         Input {
@@ -230,9 +242,9 @@ fn run(input: &mut [u8], out: &mut [u8]) -> usize {
     )
 }
 
-fn main() {
+fn main(rt: HostRuntime) {
     let mut input = io::large_buffer();
     let mut out = io::large_buffer();
-    let at = run(&mut input, &mut out);
-    flush(&out, at);
+    let at = run(&rt, &mut input, &mut out);
+    flush(&rt, &out, at);
 }

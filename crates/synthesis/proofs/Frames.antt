@@ -7,7 +7,7 @@ use native.Mathlib.Omega.{arith}
 use lib.Dec.{T, eqb, ltb}
 use lib.ListN.{length}
 use lib.Ieee.{Float}
-use borrow.Author.Tests.{not_true, not-false, eq-eqb, ne_eqb, eqb-true}
+use borrow.Author.Tests.{not-true, not-false, eq-eqb, ne_eqb, eqb-true}
 use Rattle.laws.specs.Lists.{first}
 use Rattle.laws.specs.Passes.{passes6}
 use Rattle.config.specs.Config.{valid, nf, ne}
@@ -20,19 +20,19 @@ use Rattle.synthesis.specs.Synthesis.{kept_of, channel_of, channel_past, Lent, G
 
 -- the number and the index, from the tests one after the other; v is what the code's test of the configuration gave
 module _ (c : ℕ) (x : Lent) {v : Bool} (e : v ≡ valid c) where
-  pub says-1 : not v ≡ true → (1 ≡ number c x) × (0 ≡ index 1 x)
-  says-1 h = (simp (sym e ∙ not_true v h), refl)
+  pub says_1 : not v ≡ true → (1 ≡ number c x) × (0 ≡ index 1 x)
+  says_1 h = (simp (sym e ∙ not-true v h), refl)
 
   module _ (h : not v ≡ false) where
     ok : valid c ≡ true
     ok = sym e ∙ not-false v h
 
-    pub says-3 : (length x.lines ≡ ne c → ⊥) → (3 ≡ number c x) × (0 ≡ index 3 x)
-    says-3 a = (simp (ok, ne_eqb _ _ a), refl)
+    pub says_3 : (length x.lines ≡ ne c → ⊥) → (3 ≡ number c x) × (0 ≡ index 3 x)
+    says_3 a = (simp (ok, ne_eqb _ _ a), refl)
 
     module _ (a : length x.lines ≡ ne c) where
-      pub says-4 : (length x.samples ≡ nf c → ⊥) → (4 ≡ number c x) × (0 ≡ index 4 x)
-      says-4 b = (simp (ok, eq-eqb _ _ a, ne_eqb _ _ b), refl)
+      pub says_4 : (length x.samples ≡ nf c → ⊥) → (4 ≡ number c x) × (0 ≡ index 4 x)
+      says_4 b = (simp (ok, eq-eqb _ _ a, ne_eqb _ _ b), refl)
 
       pub says-rest : length x.samples ≡ nf c → {w : Verdict} → w ≡ on_values x.lines → (w.number ≡ number c x) × (w.index ≡ index w.number x)
       says-rest b f =
@@ -42,16 +42,16 @@ module _ (c : ℕ) (x : Lent) {v : Bool} (e : v ≡ valid c) where
 
 -- what a call that is not refused has passed
 pub record Passed (c : ℕ) (x : Lent) : Type 0 where
-  pub is-valid : T (valid c)
-  pub lines-is : length x.lines ≡ ne c
-  pub samples-is : length x.samples ≡ nf c
+  pub is_valid : T (valid c)
+  pub lines_is : length x.lines ≡ ne c
+  pub samples_is : length x.samples ≡ nf c
 
 pub passed : (c : ℕ) (x : Lent) → number c x ≡ 0 → Passed c x
 passed c x = go (valid c) (eqb (length x.lines) (ne c)) (eqb (length x.samples) (nf c)) (ltb (first passes6 x.lines) (length x.lines)) refl refl refl
   where
     go : (p q r s : Bool) → valid c ≡ p → eqb (length x.lines) (ne c) ≡ q → eqb (length x.samples) (nf c) ≡ r
         → ◌≡◌ {A = ℕ} (cond (not p) 1 (cond (not q) 3 (cond (not r) 4 (cond s 6 0)))) 0 → Passed c x
-    go true true true s p q r e = record { is-valid = subst T (sym p) tt; lines-is = eqb-true _ _ q; samples-is = eqb-true _ _ r }
+    go true true true s p q r e = record { is_valid = subst T (sym p) tt; lines_is = eqb-true _ _ q; samples_is = eqb-true _ _ r }
     go true true false s p q r e = absurd (omega arith)
     go true false b s p q r e = absurd (omega arith)
     go false a b s p q r e = absurd (omega arith)

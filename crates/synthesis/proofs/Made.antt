@@ -18,7 +18,7 @@ use Rattle.synthesis.proofs.Frames.{passed}
 pub keeps : (c : ℕ) (x : Lent) → number c x ≡ 0 → {k : ℕ} → k ≡ z c → (k ≤ length x.samples) × (length x.samples - k ≤ 300) × (length x.samples - k ≡ nf c - z c)
 keeps c x e {k} f =
     let p = passed c x e in
-    let s = sound c p.is-valid in
+    let s = sound c p.is_valid in
     (omega arith, omega arith, omega arith)
 
 -- the memory as the channel keeps it: what the frame left, and zeros to the end

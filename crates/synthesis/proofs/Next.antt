@@ -10,7 +10,7 @@ use Rattle.laws.proofs.Lists.{tab-at}
 use Rattle.config.specs.Config.{valid, nf, z, half, ne}
 use Rattle.config.proofs.Sound.{sound}
 use Rattle.windows.specs.Windows.{window}
-use Rattle.windows.proofs.Entries.{window-length}
+use Rattle.windows.proofs.Entries.{window_length}
 use Rattle.gains.specs.Gains.{gain}
 use Rattle.laws.specs.Numbers.{zero32}
 use Rattle.synthesis_steps.proofs.Lengths.{length-remains, length-output, last-output}
@@ -23,7 +23,7 @@ module _ (c : ℕ) (v : T (valid c)) (x : List Float) (l : length x ≡ ne c) wh
   unfolding places_of
   length-places_of =
       let s = sound c v in
-      length-places (half c) (gain (nf c)) (window c) x (omega arith) (window-length c v ∙ omega arith) ∙ omega arith
+      length-places (half c) (gain (nf c)) (window c) x (omega arith) (window_length c v ∙ omega arith) ∙ omega arith
 
   early : z c ≤ nf c
   early = let s = sound c v in omega arith

@@ -1,6 +1,9 @@
 // The synthesis channel: its memory, `clear`, and a frame by value and in place.
 // Ported from src/decoder/modified_dct.rs of lc3-codec 0.2.0, and changed: a configuration number picks the tables, the channel goes in by value
 // and comes back, or lends its array, the work areas are the frame's own, and a call with wrong lengths or lines is refused.
+
+#![tactic(auto)]
+
 ghost use Rattle.std.specs.Prelude.{◌≡◌, length, replicate};
 ghost use Rattle.laws.specs.Numbers.{zero32};
 ghost use Rattle.synthesis.specs.Synthesis.{kept_of, channel_of, channel_past, silent, cleared, number, index, frames, lent, outcome, outcome_at};
@@ -10,21 +13,21 @@ use refusals::Verdict;
 
 // What a stream keeps between frames: the last places of the frame before, and zeros at the places that its configuration has no use for.
 #[repr(C)]
-#[derive(Drop)]
+#[derive(Clone, Copy)]
 pub struct Channel {
     pub config: u8,
     pub memory: [f32; 300],
 }
 
 #[repr(C)]
-#[derive(Drop)]
+#[derive(Clone, Copy)]
 pub struct Cleared {
     pub number: u8,
     pub channel: Channel,
 }
 
 #[repr(C)]
-#[derive(Drop)]
+#[derive(Clone, Copy)]
 pub struct Framed {
     pub number: u8,
     pub index: usize,

@@ -1,5 +1,8 @@
 // The second step of a synthesis frame over the configuration: the DCT's values to samples and memory. The gain and the window are picked here.
 // Ported from src/decoder/modified_dct.rs of lc3-codec 0.2.0, and changed: a configuration number picks the gain and the window.
+
+#![tactic(auto)]
+
 ghost use Rattle.std.specs.Prelude.{◌≡◌, ◌-◌, ◌*◌, T, length};
 ghost use Rattle.config.specs.Config.{valid, nf, z, half};
 ghost use Rattle.windows.specs.Windows.{window};

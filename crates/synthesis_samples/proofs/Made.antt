@@ -21,7 +21,7 @@ use Rattle.synthesis_samples.specs.Samples.{places_of, samples_of, memory_of}
 
 -- the slices that a frame lends, for the DCT
 pub dct_takes : (c : ℕ) {l n : ℕ} → T (valid c) → l ≡ ne c → n ≡ nf c → (l ≤ n) × T (among dct_lengths n)
-dct_takes c v e f = let s = sound c v in (omega arith, subst (λ (n : ℕ). T (among dct_lengths n)) (sym f) s.dct-length)
+dct_takes c v e f = let s = sound c v in (omega arith, subst (λ (n : ℕ). T (among dct_lengths n)) (sym f) s.dct_length)
 
 -- the gain comes before the unfolding in the code, and behind it in the definition
 module _ (c : ℕ) (v : T (valid c)) (x : List Float) (ex : length x ≡ ne c) {n : ℕ} {y : List Float} (en : n ≡ nf c) (ey : y ≡ dct_iv (padded n x)) where

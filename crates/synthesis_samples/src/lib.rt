@@ -1,6 +1,9 @@
 // A synthesis frame over the configuration: lines and memory to samples and memory. No refusals here, and no channel.
 // Ported from src/decoder/modified_dct.rs of lc3-codec 0.2.0, and changed: a configuration number picks the tables, and the work areas are the
 // frame's own.
+
+#![tactic(auto)]
+
 ghost use Rattle.std.specs.Prelude.{◌≡◌, ◌-◌, T, length};
 ghost use Rattle.config.specs.Config.{valid, nf, z, ne};
 ghost use Rattle.synthesis_samples.specs.Samples.{samples_of, memory_of};

@@ -12,7 +12,7 @@ use lib.Seq.{get_or-append-add, get_or-take, get_or-drop, length-take-le, take_a
 use borrow.Rule.Slice.PartMut.{mid_of, put_mid}
 use borrow.Author.Tests.{ltb-true, ltb-false}
 use Rattle.laws.proofs.Lists.{Filled, filled_is}
-use Rattle.laws.proofs.Parts.{mid-tail, put-tail}
+use Rattle.laws.proofs.Parts.{mid_tail, put_tail}
 
 -- before a place, or not
 pub lt-or_ge : (k n : ℕ) → (k < n) ⊎ (n ≤ k)
@@ -82,10 +82,10 @@ filled_part {A} {l} d from t h e b =
 -- the first n places came back as x; the others are then lent as they were, and come back as y
 module _ {A : Type 0} (n : ℕ) (l : List A) {p x : List A} (i : p ≡ x) (e : length x ≡ n) where
   pub second-lent : mid_of n (length (p ++ drop n l) - n) (p ++ drop n l) ≡ drop n l
-  second-lent = mid-tail n (p ++ drop n l) ∙ drop_at p (drop n l) n (ap length i ∙ e)
+  second-lent = mid_tail n (p ++ drop n l) ∙ drop_at p (drop n l) n (ap length i ∙ e)
 
   pub two-parts : {q y : List A} → q ≡ y → put_mid n (length (p ++ drop n l) - n) (p ++ drop n l) q ≡ x ++ y
-  two-parts {q} {y} j = put-tail n (p ++ drop n l) q ∙ ap (λ (r : List A). r ++ q) (take_at p (drop n l) n (ap length i ∙ e) ∙ i) ∙ ap (λ (r : List A). x ++ r) j
+  two-parts {q} {y} j = put_tail n (p ++ drop n l) q ∙ ap (λ (r : List A). r ++ q) (take_at p (drop n l) n (ap length i ∙ e) ∙ i) ∙ ap (λ (r : List A). x ++ r) j
 
 -- both parts of l are places of t, those of the second behind those of the first
 module _ {A : Type 0} (n : ℕ) (l : List A) (from to : ℕ) (t : List A) (b : n ≤ length l) (s : from + length l ≤ length t) (f : from + n ≡ to) where
@@ -110,13 +110,13 @@ module _ {A : Type 0} (n : ℕ) (l : List A) (from to : ℕ) (t : List A) (b : n
       two-parts n l i firsts (j ∙ ap (λ (r : List A). take (length r) (drop to t)) (second-lent n l i firsts)) ∙ joined
 
   -- the same with m added to them, or whatever the operation is
-  pub two-sums : (g : A → A → A) (m : List A) {p q : List A} → length m ≡ length l → p ≡ zip_with g (take n m) (take (length (take n l)) (drop from t))
+  pub two_sums : (g : A → A → A) (m : List A) {p q : List A} → length m ≡ length l → p ≡ zip_with g (take n m) (take (length (take n l)) (drop from t))
       → q ≡ zip_with g (mid_of n (length m - n) m) (take (length (mid_of n (length (p ++ drop n l) - n) (p ++ drop n l))) (drop to t))
       → put_mid n (length (p ++ drop n l) - n) (p ++ drop n l) q ≡ zip_with g m (take (length l) (drop from t))
-  two-sums g m k i j =
+  two_sums g m k i j =
       let i = i ∙ ap (zip_with g (take n m)) lent-first in
       let d = length-take-le n m (omega arith) in
       let e = length-zip_with g (take n m) (take n (drop from t)) (d ∙ sym firsts) ∙ d in
-      two-parts n l i e (j ∙ ap₂ (λ (x y : List A). zip_with g x (take (length y) (drop to t))) (mid-tail n m) (second-lent n l i e))
+      two-parts n l i e (j ∙ ap₂ (λ (x y : List A). zip_with g x (take (length y) (drop to t))) (mid_tail n m) (second-lent n l i e))
       ∙ sym (zip_with-append g m (take n (drop from t)) (take (length (drop n l)) (drop to t)) n firsts)
       ∙ ap (zip_with g m) joined

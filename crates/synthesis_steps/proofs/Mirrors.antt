@@ -48,17 +48,17 @@ module _ (h : ℕ) (b : List Float) (e : length b ≡ 2 * h) where
       get_or-append (drop h (mirrored b)) (map neg (take h (mirrored b))) nan k (omega (arith, length-left)) ∙ get_or-drop h (mirrored b) k nan
 
   -- a place of the first quarter, of the middle half, of the last quarter
-  pub place-first : (k j : ℕ) → k < h → j ≡ h + k → get_or (unfolded h b) k nan ≡ get_or b j nan
-  place-first k j p e = moved k (omega arith) ∙ ap (λ (i : ℕ). get_or (mirrored b) i nan) (sym e) ∙ mirrored-low j (omega arith)
+  pub place_first : (k j : ℕ) → k < h → j ≡ h + k → get_or (unfolded h b) k nan ≡ get_or b j nan
+  place_first k j p e = moved k (omega arith) ∙ ap (λ (i : ℕ). get_or (mirrored b) i nan) (sym e) ∙ mirrored-low j (omega arith)
 
-  pub place-middle : (k j : ℕ) → h ≤ k → k < 3 * h → j ≡ 3 * h - 1 - k → get_or (unfolded h b) k nan ≡ neg (get_or b j nan)
-  place-middle k j p q e =
+  pub place_middle : (k j : ℕ) → h ≤ k → k < 3 * h → j ≡ 3 * h - 1 - k → get_or (unfolded h b) k nan ≡ neg (get_or b j nan)
+  place_middle k j p q e =
       let f : 4 * h - 1 - (h + k) ≡ j = omega arith in
       moved k q ∙ mirrored-high (h + k) (omega arith) (omega arith) ∙ ap (λ (i : ℕ). neg (get_or b i nan)) f
 
-  pub place-last : (k j : ℕ) → k < 4 * h → k ≡ 3 * h + j → get_or (unfolded h b) k nan ≡ neg (get_or b j nan)
+  pub place_last : (k j : ℕ) → k < 4 * h → k ≡ 3 * h + j → get_or (unfolded h b) k nan ≡ neg (get_or b j nan)
   unfolding unfolded
-  place-last k j p e =
+  place_last k j p e =
       let f : k - length (drop h (mirrored b)) ≡ j = omega (arith, length-left) in
       get_or-second (drop h (mirrored b)) (map neg (take h (mirrored b))) k nan (omega (arith, length-left))
       ∙ get_or-negs (take h (mirrored b)) (k - length (drop h (mirrored b)))
@@ -68,19 +68,19 @@ module _ (h : ℕ) (b : List Float) (e : length b ≡ 2 * h) where
   -- before the gain: the first half is antisymmetric, the second symmetric
   front : (k : ℕ) → k < 2 * h → get_or (unfolded h b) k nan ≡ neg (get_or (unfolded h b) (2 * h - 1 - k) nan)
   front k p = ⊎_elim
-      (λ q. place-first k (h + k) q refl ∙ sym (ap neg (place-middle (2 * h - 1 - k) (h + k) (omega arith) (omega arith) (omega arith)) ∙ neg-neg (get_or b (h + k) nan)))
-      (λ q. place-middle k (3 * h - 1 - k) q (omega arith) refl ∙ sym (ap neg (place-first (2 * h - 1 - k) (3 * h - 1 - k) (omega arith) (omega arith))))
+      (λ q. place_first k (h + k) q refl ∙ sym (ap neg (place_middle (2 * h - 1 - k) (h + k) (omega arith) (omega arith) (omega arith)) ∙ neg-neg (get_or b (h + k) nan)))
+      (λ q. place_middle k (3 * h - 1 - k) q (omega arith) refl ∙ sym (ap neg (place_first (2 * h - 1 - k) (3 * h - 1 - k) (omega arith) (omega arith))))
       (lt-or_ge k h)
 
   back : (k : ℕ) → k < 2 * h → get_or (unfolded h b) (2 * h + k) nan ≡ get_or (unfolded h b) (4 * h - 1 - k) nan
   back k p = ⊎_elim
-      (λ q. place-middle (2 * h + k) (h - 1 - k) (omega arith) (omega arith) (omega arith) ∙ sym (place-last (4 * h - 1 - k) (h - 1 - k) (omega arith) (omega arith)))
-      (λ q. place-last (2 * h + k) (k - h) (omega arith) (omega arith) ∙ sym (place-middle (4 * h - 1 - k) (k - h) (omega arith) (omega arith) (omega arith)))
+      (λ q. place_middle (2 * h + k) (h - 1 - k) (omega arith) (omega arith) (omega arith) ∙ sym (place_last (4 * h - 1 - k) (h - 1 - k) (omega arith) (omega arith)))
+      (λ q. place_last (2 * h + k) (k - h) (omega arith) (omega arith) ∙ sym (place_middle (4 * h - 1 - k) (k - h) (omega arith) (omega arith) (omega arith)))
       (lt-or_ge k h)
 
   -- document 01, module 6: before the window the halves mirror, bit for bit, whatever the values and the gain
-  unfold-mirrors : (g : Float) → Mirrors h (scaled g (unfolded h b))
-  unfold-mirrors g = record {
+  unfold_mirrors : (g : Float) → Mirrors h (scaled g (unfolded h b))
+  unfold_mirrors g = record {
     antisymmetric = λ k p.
         at k ∙ ap (λ (x : Float). mul binary32 x g) (front k p) ∙ mul-neg binary32 (get_or (unfolded h b) (2 * h - 1 - k) nan) g ∙ ap neg (sym (at (2 * h - 1 - k)));
     symmetric = λ k p. at (2 * h + k) ∙ ap (λ (x : Float). mul binary32 x g) (back k p) ∙ sym (at (4 * h - 1 - k));
@@ -94,10 +94,10 @@ pub unfolded-scaled : (h : ℕ) (g : Float) (b : List Float) → length b ≡ 2 
 unfolded-scaled h g b e =
     ext_get_or nan (unfolded h (scaled g b)) (scaled g (unfolded h b)) (length-unfolded h (scaled g b) d ∙ sym (length-scaled g (unfolded h b) ∙ length-unfolded h b e))
     (λ k p. ⊎_elim
-    (λ q. same k (place-first h (scaled g b) d k (h + k) q refl ∙ get_or-scaled g b (h + k)) (place-first h b e k (h + k) q refl))
+    (λ q. same k (place_first h (scaled g b) d k (h + k) q refl ∙ get_or-scaled g b (h + k)) (place_first h b e k (h + k) q refl))
     (λ q. ⊎_elim
-    (λ r. same k (place-middle h (scaled g b) d k (3 * h - 1 - k) q r refl ∙ turned (3 * h - 1 - k)) (place-middle h b e k (3 * h - 1 - k) q r refl))
-    (λ r. same k (place-last h (scaled g b) d k (k - 3 * h) (omega (arith, length-unfolded h (scaled g b) d)) (omega arith) ∙ turned (k - 3 * h)) (place-last h b e k (k - 3 * h) (omega (arith, length-unfolded h (scaled g b) d)) (omega arith)))
+    (λ r. same k (place_middle h (scaled g b) d k (3 * h - 1 - k) q r refl ∙ turned (3 * h - 1 - k)) (place_middle h b e k (3 * h - 1 - k) q r refl))
+    (λ r. same k (place_last h (scaled g b) d k (k - 3 * h) (omega (arith, length-unfolded h (scaled g b) d)) (omega arith) ∙ turned (k - 3 * h)) (place_last h b e k (k - 3 * h) (omega (arith, length-unfolded h (scaled g b) d)) (omega arith)))
     (lt-or_ge k (3 * h)))
     (lt-or_ge k h))
   where
@@ -111,4 +111,4 @@ unfolded-scaled h g b e =
     turned j = ap neg (get_or-scaled g b j) ∙ sym (mul-neg binary32 (get_or b j nan) g)
 
 pub halves : Halves
-halves = record { unfold-mirrors = unfold-mirrors }
+halves = record { unfold_mirrors = unfold_mirrors }

@@ -1,4 +1,4 @@
--- The places of a frame unfolded and windowed, as a loop writes them straight from the values: `place-windowed` is one of them, `Placed` the invariant of such a loop, and
+-- The places of a frame unfolded and windowed, as a loop writes them straight from the values: `place_windowed` is one of them, `Placed` the invariant of such a loop, and
 -- `Summed` that of one that adds a past to them. Assumes nothing.
 use mathlib.Core.Path.{◌≡◌, sym, ap, ap₂, ◌∙◌}
 use mathlib.Core.List.{List, zip_with}
@@ -38,8 +38,8 @@ module _ (h : ℕ) (b : List Float) (w : List ℕ) where
     length-places = length-windowed w (unfolded h b) fits ∙ long
 
     -- x is the place before the window, q where the window's factor stands
-    place-windowed : (k q : ℕ) {x : Float} → k < 4 * h → q ≡ 4 * h - 1 - k → get_or (unfolded h b) k nan ≡ x → mul binary32 x (of_bits binary32 (get_or w q 0)) ≡ get_or places k nan
-    place-windowed k q p s i =
+    place_windowed : (k q : ℕ) {x : Float} → k < 4 * h → q ≡ 4 * h - 1 - k → get_or (unfolded h b) k nan ≡ x → mul binary32 x (of_bits binary32 (get_or w q 0)) ≡ get_or places k nan
+    place_windowed k q p s i =
         let n : length (unfolded h b) - 1 - k ≡ q = omega (arith, long) in
         sym
         (get_or-windowed w (unfolded h b) fits k (omega (arith, long))
@@ -47,17 +47,17 @@ module _ (h : ℕ) (b : List Float) (w : List ℕ) where
 
     module _ (from : ℕ) {l : List Float} {i : ℕ} {out : List Float} (p : Placed from l i out) (s : from + length l ≤ 4 * h) where
       pub one_more : (q : ℕ) {x : Float} → i < length l → q ≡ 4 * h - 1 - (from + i) → get_or (unfolded h b) (from + i) nan ≡ x → Placed from l (i + 1) (set out i (mul binary32 x (of_bits binary32 (get_or w q 0))))
-      one_more q r j u = (omega arith, filled_more _ nan p.1 r (place-windowed (from + i) q (omega arith) j u))
+      one_more q r j u = (omega arith, filled_more _ nan p.1 r (place_windowed (from + i) q (omega arith) j u))
 
       pub all_placed : length l ≤ i → out ≡ take (length l) (drop from places)
       all_placed r = filled_part nan from places p.1 (omega (arith, p.0)) (omega (arith, length-places))
 
     module _ (past : List Float) (from : ℕ) {l : List Float} {i : ℕ} {out : List Float} (p : Summed past from l i out) (s : from + length l ≤ 4 * h) where
-      pub one-sum : (q : ℕ) {x : Float} → i < length l → q ≡ 4 * h - 1 - (from + i) → get_or (unfolded h b) (from + i) nan ≡ x → Summed past from l (i + 1) (set out i (add binary32 (get_or past i nan) (mul binary32 x (of_bits binary32 (get_or w q 0)))))
-      one-sum q r j u = (omega arith, filled_more _ nan p.1 r (ap (add binary32 (get_or past i nan)) (place-windowed (from + i) q (omega arith) j u)))
+      pub one_sum : (q : ℕ) {x : Float} → i < length l → q ≡ 4 * h - 1 - (from + i) → get_or (unfolded h b) (from + i) nan ≡ x → Summed past from l (i + 1) (set out i (add binary32 (get_or past i nan) (mul binary32 x (of_bits binary32 (get_or w q 0)))))
+      one_sum q r j u = (omega arith, filled_more _ nan p.1 r (ap (add binary32 (get_or past i nan)) (place_windowed (from + i) q (omega arith) j u)))
 
-      pub all-summed : length past ≡ length l → length l ≤ i → out ≡ zip_with (add binary32) past (take (length l) (drop from places))
-      all-summed n r =
+      pub all_summed : length past ≡ length l → length l ≤ i → out ≡ zip_with (add binary32) past (take (length l) (drop from places))
+      all_summed n r =
           let t = take (length l) (drop from places) in
           filled_is nan (zip_with (add binary32) past t) p.1 (omega (arith, p.0))
           (length-zip_with (add binary32) past t (n ∙ sym (length-take-le (length l) (drop from places) (omega (arith, length-places, length-drop from places)))) ∙ n)

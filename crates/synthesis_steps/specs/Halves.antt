@@ -7,4 +7,4 @@ use Rattle.gains.specs.Gains.{scaled}
 
 pub record Halves : Type 0 where
   -- "Before the window, the unfolded first half is antisymmetric and the second symmetric, bit for bit": of any 2 h values, whatever the gain
-  pub unfold-mirrors : (h : ℕ) (b : List Float) → length b ≡ 2 * h → (g : Float) → Mirrors h (scaled g (unfolded h b))
+  pub unfold_mirrors : (h : ℕ) (b : List Float) → length b ≡ 2 * h → (g : Float) → Mirrors h (scaled g (unfolded h b))

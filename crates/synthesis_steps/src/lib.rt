@@ -1,6 +1,9 @@
 // The steps of a synthesis frame, but for the DCT, one loop each. They know no configuration; h is nf / 2 throughout.
 // Ported from src/decoder/modified_dct.rs of lc3-codec 0.2.0, and changed: counted loops over lent slices, parts of a slice lent one after the other,
 // each unfolded place computed where it is wanted, where the Rust moves a half aside and makes all 2 nf places, and the gain applied to the values before that.
+
+#![tactic(auto)]
+
 ghost use Rattle.std.specs.Prelude.{◌≡◌, ◌+◌, ◌-◌, ◌*◌, ◌≤◌, length, take, drop, replicate};
 ghost use mathlib.Core.List.{zip_with};
 ghost use Rattle.std.specs.Float.{binary32};

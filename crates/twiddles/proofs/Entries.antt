@@ -63,10 +63,10 @@ turn_test = tt
 pub rules : Rules
 rules =
     record {
-      fft-circle = λ n s k h.
+      fft_circle = λ n s k h.
           circle-at (fft_re n) (fft_im n) (and_l (circles (fft_re n) (fft_im n)) _ (at-among round sizes circle_test n s)) k (rw (sized n s).fft-re h);
-      dct-circle = λ n s k h.
+      dct_circle = λ n s k h.
           circle-at (dct_re n) (dct_im n) (and_r (circles (fft_re n) (fft_im n)) _ (at-among round sizes circle_test n s)) k (rw (sized n s).dct-re h);
-      fft-turned = λ n s k h.
+      fft_turned = λ n s k h.
           rw (add-one k) (turned-at (get_or (fft_re n) 1 nan) (get_or (fft_im n) 1 nan) (fft_re n) (fft_im n) (at-among turning sizes turn_test n s) k (rw (sized n s).fft-re (rw (add-one k) at h)));
     }

@@ -10,7 +10,7 @@ use lib.Seq.{take-append_seam, drop-append_seam}
 use lib.Ieee.{Float}
 use lib.Ieee.Fits.{and_l, and_r}
 use borrow.Rule.Slice.PartMut.{mid_of}
-use Rattle.laws.proofs.Parts.{mid-tail}
+use Rattle.laws.proofs.Parts.{mid_tail}
 use Rattle.laws.proofs.Table.{every}
 use Rattle.config.specs.Tables.{rows}
 use Rattle.config.specs.Config.{row, half, among, fft_sizes}
@@ -57,17 +57,17 @@ sized n s =
 
 -- what the code's tables of a size hold
 pub record Halved (n : ℕ) (re im t : List Float) : Type 0 where
-  pub re-is : take n t ≡ re
-  pub im-is : mid_of n (length t - n) t ≡ im
-  pub re-fits : length (take n t) ≡ n
-  pub im-fits : length (mid_of n (length t - n) t) ≡ n
+  pub re_is : take n t ≡ re
+  pub im_is : mid_of n (length t - n) t ≡ im
+  pub re_fits : length (take n t) ≡ n
+  pub im_fits : length (mid_of n (length t - n) t) ≡ n
   pub fits : length t ≡ n + n
 
 pub halved : (n : ℕ) (re im t : List Float) → t ≡ re ++ im → length re ≡ n → length im ≡ n → Halved n re im t
 halved n re im t e l m =
     let r : take n t ≡ re = ap₂ take (sym l) e ∙ take-append_seam re im in
-    let i : mid_of n (length t - n) t ≡ im = mid-tail n t ∙ ap₂ drop (sym l) e ∙ drop-append_seam re im in
-    record { re-is = r; im-is = i; re-fits = ap length r ∙ l; im-fits = ap length i ∙ m; fits = ap length e ∙ length-append re im ∙ ap₂ ◌+◌ l m }
+    let i : mid_of n (length t - n) t ≡ im = mid_tail n t ∙ ap₂ drop (sym l) e ∙ drop-append_seam re im in
+    record { re_is = r; im_is = i; re_fits = ap length r ∙ l; im_fits = ap length i ∙ m; fits = ap length e ∙ length-append re im ∙ ap₂ ◌+◌ l m }
 
 pub dct_halves : (n : ℕ) → T (among fft_sizes n) → (t : List Float) → t ≡ dct_table n → Halved n (dct_re n) (dct_im n) t
 unfolding dct_table

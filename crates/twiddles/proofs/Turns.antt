@@ -21,4 +21,4 @@ unfolding sizes start fft_re_bits fft_im_bits turn_bits tiny of_bits of_fields o
 test = tt
 
 pub turns : Turns
-turns = record { turns_are = turns_are; turns-tiny = at-among (λ n. minus_zero_then_tiny (turn_bits n)) sizes test }
+turns = record { turns_are = turns_are; turns_tiny = at-among (λ n. minus_zero_then_tiny (turn_bits n)) sizes test }

@@ -46,4 +46,4 @@ pub record Turns : Type 0 where
   -- at each size these parts have the bits that the Rust computes
   pub turns_are : map turn_bits sizes ≡ rust_turns
   -- at each size the imaginary part at no turn is -0.0, and the parts at half a turn, and at a quarter and three quarters where there are such, are tiny and not 0
-  pub turns-tiny : (n : ℕ) → T (among sizes n) → T (minus_zero_then_tiny (turn_bits n))
+  pub turns_tiny : (n : ℕ) → T (among sizes n) → T (minus_zero_then_tiny (turn_bits n))

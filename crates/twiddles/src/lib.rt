@@ -1,6 +1,9 @@
 // The twiddles of the DCT-IV. The definitions have the FFT's twiddles too; what a transform reads of them is in fft_tables.
 // New: src/common/kissfft.rs and src/common/dct_iv.rs of lc3-codec 0.2.0 compute these values, and a run of them gave
 // these tables.
+
+#![tactic(auto)]
+
 ghost use Rattle.std.specs.Prelude.{◌≡◌, map};
 ghost use Rattle.std.specs.Float.Ieee.{neg};
 

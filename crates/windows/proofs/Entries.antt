@@ -2,7 +2,7 @@
 -- entry of a configuration's window. A window has 2 nf entries: one computed test over the configurations. Assumes nothing.
 use mathlib.Core.Path.{◌≡◌, subst}
 use mathlib.Core.Bool.{Bool, not}
-use Prim.Native.Nat.{ℕ, ◌+◌, ◌-◌, ◌*◌, ◌<◌, ◌≤◌}
+use Prim.Native.Nat.{ℕ, ◌+◌, ◌*◌, ◌<◌, ◌≤◌}
 use native.Mathlib.Omega.{arith}
 use lib.Dec.{T, leb, leb→le}
 use lib.ListN.{get_or, length, length-take, length-drop}
@@ -36,16 +36,16 @@ lie_test = tt
 within : (c : ℕ) → T (valid c) → start c + 2 * nf c ≤ length entries
 within c v = leb→le (start c + 2 * nf c) (length entries) (each lies lie_test c v)
 
-pub window-length : (c : ℕ) → T (valid c) → length (window c) ≡ 2 * nf c
+pub window_length : (c : ℕ) → T (valid c) → length (window c) ≡ 2 * nf c
 unfolding window
-window-length c v = let h = within c v in simp (length-take, length-drop) (omega arith)
+window_length c v = let h = within c v in simp (length-take, length-drop) (omega arith)
 
 entry_at : (c k : ℕ) → k < 2 * nf c → get_or (window c) k 0 ≡ get_or entries (start c + k) 0
 unfolding window
 entry_at c k h = rw (get_or-take, get_or-drop)
 
-window-small : (c : ℕ) → T (valid c) → (k : ℕ) → k < 2 * nf c → T (small (of_bits binary32 (get_or (window c) k 0)))
-window-small c v k h =
+window_small : (c : ℕ) → T (valid c) → (k : ℕ) → k < 2 * nf c → T (small (of_bits binary32 (get_or (window c) k 0)))
+window_small c v k h =
     let w = within c v in
     rw (entry_at c k h) (at is_small entries test (start c + k) (omega arith))
 
@@ -57,10 +57,10 @@ number (inf s) t = tt
 number (fin s m e) t = tt
 
 window-number : (c : ℕ) → T (valid c) → (k : ℕ) → k < 2 * nf c → T (not (nan_bits binary32 (get_or (window c) k 0)))
-window-number c v k h = rw (nan_bits_is binary32 (get_or (window c) k 0)) (number (of_bits binary32 (get_or (window c) k 0)) (window-small c v k h))
+window-number c v k h = rw (nan_bits_is binary32 (get_or (window c) k 0)) (number (of_bits binary32 (get_or (window c) k 0)) (window_small c v k h))
 
-pub window-numbers : (c : ℕ) → T (valid c) → Numbers (window c)
-window-numbers c v k h = window-number c v k (subst (λ (n : ℕ). k < n) (window-length c v) h)
+pub window_numbers : (c : ℕ) → T (valid c) → Numbers (window c)
+window_numbers c v k h = window-number c v k (subst (λ (n : ℕ). k < n) (window_length c v) h)
 
 pub rule : Rule
-rule = record { window-length = window-length; window-small = window-small; window-numbers = window-numbers }
+rule = record { window_length = window_length; window_small = window_small; window_numbers = window_numbers }

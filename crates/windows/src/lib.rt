@@ -1,6 +1,9 @@
 // The windows of the configurations as bits, and the reading of one entry.
 // The bits are liblc3's, as data/README.md says; the names are those by which lc3-codec 0.2.0 uses its windows (src/encoder/modified_dct.rs), and of 5 and
 // 2.5 ms, which it does not have, of the same form; of functions in place of constants.
+
+#![tactic(auto)]
+
 ghost use Rattle.std.specs.Prelude.{◌≡◌, ◌<◌, length, get_or};
 ghost use Rattle.std.specs.Float.{binary32};
 ghost use Rattle.std.specs.Float.Ieee.{of_bits};

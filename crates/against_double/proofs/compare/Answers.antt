@@ -1,0 +1,6 @@
+-- `compare` is safe: the part of the buffer lies within it. Assumes nothing.
+use Rattle.std.proofs.Common.{sym, arith, length-take-le}
+use Rattle.against_double.proofs.compare.Goals as goal
+
+pub slice_bounds-compare_by-end : goal.slice_bounds-compare_by-end
+slice_bounds-compare_by-end c = sym (length-take-le _ _ (omega arith))

@@ -1,0 +1,11 @@
+-- `analysis::clear` meets its contract: its channel is of the configuration that the clear is told. Assumes nothing.
+use mathlib.Core.Path.{ap, ◌∙◌}
+use Rattle.refusals.proofs.Clears.{made_of}
+use Rattle.analysis.specs.declared.Channel.{Channel}
+use Rattle.analysis.specs.Analysis.{cleared_as, cleared}
+use Rattle.analysis.proofs.clear.Goals as goal
+
+pub returns : goal.returns
+unfolding cleared
+returns c = let told = c.on_clear-told in
+    ap (λ (ch : Channel). record { number = told.result.number; channel = ch }) c.silent.ensures ∙ made_of cleared_as _ told.result told.ensures

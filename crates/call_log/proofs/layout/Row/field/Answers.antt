@@ -1,0 +1,22 @@
+-- `call_log::layout::Row::field` meets its contract: the field of each place. Assumes nothing.
+use mathlib.Core.Path.{◌≡◌}
+use native.Mathlib.Omega.{arith}
+use Rattle.call_log.proofs.layout.Row.field.Goals as goal
+
+pub returns-in-0 : goal.returns-in-0
+returns-in-0 c = simp c.in-0.is
+
+pub returns-in-1 : goal.returns-in-1
+returns-in-1 c = simp c.in-1.is
+
+pub returns-in-2 : goal.returns-in-2
+returns-in-2 c = simp c.in-2.is
+
+pub returns-in-3 : goal.returns-in-3
+returns-in-3 c = simp c.in-3.is
+
+pub returns-in-4 : goal.returns-in-4
+returns-in-4 c = simp c.in-4.is
+
+pub returns-in_default : goal.returns-in_default
+returns-in_default c = let e : c.args.i ≡ 5 = omega arith in simp e

@@ -1,0 +1,19 @@
+-- `call_made::measure_after` meets its contract: no call where the frame was refused, else one on its lines. Assumes nothing.
+use mathlib.Core.Path.{ap, ◌∙◌}
+use mathlib.Core.Bool.{false}
+use Rattle.call_text.specs.declared.Extra.TheVariants.{Flag}
+use Rattle.call_made.specs.Made.{count, with_peaks}
+use Rattle.call_made.proofs.Answers.{unmeasured-is, measured-after}
+use Rattle.call_made.proofs.measure_after.Goals as goal
+
+pub returns-then-framed-ne-ACCEPTED : goal.returns-then-framed-ne-ACCEPTED
+returns-then-framed-ne-ACCEPTED c = let t = c in
+    let a = t.args in
+    let n = c.count-then-framed-ne-ACCEPTED.ensures.value ∙ ap count c.rest.ensures in
+    c.with_peaks.ensures
+    ∙ (λ j. with_peaks a.framed.number a.framed.index (Flag false) (t.area.ensures.value j) (c.count.ensures.value j) (c.peaks.ensures.value j) (n j))
+    ∙ unmeasured-is a.config a.framed a.lengths.now t.if-framed-ne-ACCEPTED.true
+
+pub returns : goal.returns
+returns c = let a = c.args in
+    c.measure_on.ensures ∙ measured-after a.config a.framed a.lengths.now c.if-framed-ne-ACCEPTED.false

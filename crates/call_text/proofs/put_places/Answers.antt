@@ -1,0 +1,13 @@
+-- `call_text::put_places` meets its contract. The invariant: what is left, written on the page at hand, makes the page that is to be (`Going`). Assumes nothing.
+use native.Mathlib.Omega.{arith}
+use Rattle.call_text.proofs.Pages.{begun, again, ended}
+use Rattle.call_text.proofs.put_places.Goals as goal
+
+pub loop-i-init : goal.loop-i-init
+loop-i-init c = begun _ _
+
+pub loop-i-preserved : goal.loop-i-preserved
+loop-i-preserved c = let w = c.put_place-k in again 0 _ _ c.loop-i.invariant (omega arith) w.auto.out w.ensures
+
+pub returns : goal.returns
+returns c = ended c.loop-i.invariant (omega arith) c.put.ensures

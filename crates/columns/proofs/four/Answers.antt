@@ -1,0 +1,8 @@
+-- `columns::four` meets its contract in both directions: its steps are the definition's, one after the other. Assumes nothing.
+use Rattle.columns.proofs.four.Goals as goal
+
+pub returns-then-inverse : goal.returns-then-inverse
+returns-then-inverse c = rw c.if-inverse.true (simp (c.minus_quarter.ensures, c.sub.ensures, c.plus_quarter.ensures, c.add.ensures, c.sub-s4.ensures, c.add-s3.ensures, c.add-b.ensures, c.sub-s5.ensures))
+
+pub returns : goal.returns
+returns c = rw c.if-inverse.false (simp (c.plus_quarter-2.ensures, c.sub-2.ensures, c.minus_quarter-2.ensures, c.add-2.ensures, c.sub-s4.ensures, c.add-s3.ensures, c.add-b.ensures, c.sub-s5.ensures))

@@ -1,0 +1,5 @@
+-- `columns::two` meets its contract: the ensures of the sum and the difference. Assumes nothing.
+use Rattle.columns.proofs.two.Goals as goal
+
+pub returns : goal.returns
+returns c = simp (c.sub.ensures, c.add.ensures)

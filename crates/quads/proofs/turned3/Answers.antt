@@ -1,0 +1,18 @@
+-- `quads::turned3` meets its contract: the column that is read is the column. Assumes nothing.
+use mathlib.Core.Path.{ap, ◌∙◌}
+use mathlib.Core.List.{[], ◌∷◌}
+use Prim.Native.Nat.{◌+◌, ◌*◌}
+use native.Mathlib.Omega.{arith}
+use Rattle.complex.specs.Complex.{at}
+use Rattle.laws.specs.Lists.{tab}
+use Rattle.columns.specs.Column.{three, of3}
+use Rattle.quads.specs.Beside.{twist_by, beside, beside3}
+use Rattle.quads.proofs.Read.{first, later, sees3, seen}
+use Rattle.quads.proofs.turned3.Goals as goal
+
+pub returns : goal.returns
+unfolding tab beside3
+returns c = let a = c.args in
+    let f = at a.re.now a.im.now in
+    let u = at a.tr.now a.ti.now in
+    c.three.ensures ∙ ap of3 (seen 3 (twist_by (beside u a.m a.i) (λ q. f (a.i + a.m * q))) (three a.y) (sees3 a.y) _ (λ j. first f a.i a.m c.get.ensures j ∷ later f u a.i a.m 0 (omega arith) (omega arith) c.twiddled-s1.ensures j ∷ later f u a.i a.m 1 (omega arith) (omega arith) c.twiddled-s2.ensures j ∷ []))

@@ -1,0 +1,76 @@
+-- `synthesis_overlap::arms::overlap_large` meets its contract: an arm says of its number what is asked of the configuration. Written by tools/tables. Assumes nothing.
+use Rattle.config.proofs.Small.{is_last}
+use Rattle.synthesis_overlap.proofs.Made.{at_arm, of_arm}
+use Rattle.synthesis_overlap.proofs.arms.overlap_large.Goals as goal
+
+pub overlap_n120_7p5ms-requires : goal.overlap_n120_7p5ms-requires
+overlap_n120_7p5ms-requires c = let p = c.requires in at_arm c.in-1.is p.0 p.1
+
+pub overlap_n180_7p5ms-requires : goal.overlap_n180_7p5ms-requires
+overlap_n180_7p5ms-requires c = let p = c.requires in at_arm c.in-2.is p.0 p.1
+
+pub overlap_n240_7p5ms-requires : goal.overlap_n240_7p5ms-requires
+overlap_n240_7p5ms-requires c = let p = c.requires in at_arm c.in-3.is p.0 p.1
+
+pub overlap_n360_7p5ms-requires : goal.overlap_n360_7p5ms-requires
+overlap_n360_7p5ms-requires c = let p = c.requires in at_arm c.in-4.is p.0 p.1
+
+pub overlap_n160_10ms-requires : goal.overlap_n160_10ms-requires
+overlap_n160_10ms-requires c = let p = c.requires in at_arm c.in-6.is p.0 p.1
+
+pub overlap_n240_10ms-requires : goal.overlap_n240_10ms-requires
+overlap_n240_10ms-requires c = let p = c.requires in at_arm c.in-7.is p.0 p.1
+
+pub overlap_n320_10ms-requires : goal.overlap_n320_10ms-requires
+overlap_n320_10ms-requires c = let p = c.requires in at_arm c.in-8.is p.0 p.1
+
+pub overlap_n480_10ms-requires : goal.overlap_n480_10ms-requires
+overlap_n480_10ms-requires c = let p = c.requires in at_arm c.in-9.is p.0 p.1
+
+pub overlap_n120_5ms-requires : goal.overlap_n120_5ms-requires
+overlap_n120_5ms-requires c = let p = c.requires in at_arm c.in-12.is p.0 p.1
+
+pub overlap_n160_5ms-requires : goal.overlap_n160_5ms-requires
+overlap_n160_5ms-requires c = let p = c.requires in at_arm c.in-13.is p.0 p.1
+
+pub overlap_n240_5ms-requires : goal.overlap_n240_5ms-requires
+overlap_n240_5ms-requires c = let p = c.requires in at_arm c.in-14.is p.0 p.1
+
+pub overlap_n120_2p5ms-requires : goal.overlap_n120_2p5ms-requires
+overlap_n120_2p5ms-requires c = let p = c.requires in at_arm (is_last _ p.2 p.3 c.in_default.in_default-own.rest) p.0 p.1
+
+pub returns-in-1 : goal.returns-in-1
+returns-in-1 c = of_arm c.args.memory.now c.args.samples.now c.in-1.is c.overlap_n120_7p5ms.ensures
+
+pub returns-in-2 : goal.returns-in-2
+returns-in-2 c = of_arm c.args.memory.now c.args.samples.now c.in-2.is c.overlap_n180_7p5ms.ensures
+
+pub returns-in-3 : goal.returns-in-3
+returns-in-3 c = of_arm c.args.memory.now c.args.samples.now c.in-3.is c.overlap_n240_7p5ms.ensures
+
+pub returns-in-4 : goal.returns-in-4
+returns-in-4 c = of_arm c.args.memory.now c.args.samples.now c.in-4.is c.overlap_n360_7p5ms.ensures
+
+pub returns-in-6 : goal.returns-in-6
+returns-in-6 c = of_arm c.args.memory.now c.args.samples.now c.in-6.is c.overlap_n160_10ms.ensures
+
+pub returns-in-7 : goal.returns-in-7
+returns-in-7 c = of_arm c.args.memory.now c.args.samples.now c.in-7.is c.overlap_n240_10ms.ensures
+
+pub returns-in-8 : goal.returns-in-8
+returns-in-8 c = of_arm c.args.memory.now c.args.samples.now c.in-8.is c.overlap_n320_10ms.ensures
+
+pub returns-in-9 : goal.returns-in-9
+returns-in-9 c = of_arm c.args.memory.now c.args.samples.now c.in-9.is c.overlap_n480_10ms.ensures
+
+pub returns-in-12 : goal.returns-in-12
+returns-in-12 c = of_arm c.args.memory.now c.args.samples.now c.in-12.is c.overlap_n120_5ms.ensures
+
+pub returns-in-13 : goal.returns-in-13
+returns-in-13 c = of_arm c.args.memory.now c.args.samples.now c.in-13.is c.overlap_n160_5ms.ensures
+
+pub returns-in-14 : goal.returns-in-14
+returns-in-14 c = of_arm c.args.memory.now c.args.samples.now c.in-14.is c.overlap_n240_5ms.ensures
+
+pub returns-in_default : goal.returns-in_default
+returns-in_default c = let p = c.requires in of_arm c.args.memory.now c.args.samples.now (is_last _ p.2 p.3 c.in_default.in_default-own.rest) c.overlap_n120_2p5ms.ensures
