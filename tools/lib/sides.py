@@ -6,9 +6,6 @@ import tempfile
 
 from lib import answers, kit, rust_side
 from lib.rust_side import Missing
-from lib.tool import ROOT
-
-REPLAY = ROOT / 'target' / 'bin' / 'replay'
 
 
 class NotBuilt(Missing):
@@ -21,10 +18,8 @@ class Broken(Exception):
 
 def replay():
     """The port's side."""
-    if not REPLAY.is_file():
-        raise NotBuilt('no target/bin/replay (`rt check replay` makes it)')
     try:
-        return kit.command(REPLAY)
+        return [str(kit.program('replay'))]
     except kit.NoKit as why:
         raise NotBuilt(why) from None
 

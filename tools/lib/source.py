@@ -2,7 +2,7 @@
 import re
 from typing import NamedTuple
 
-FUNCTION = re.compile(r'^( *)(pub )?(?:extern "C" )?fn (\w+)')
+FUNCTION = re.compile(r'^( *)(pub )?(?:extern "C" )?fn (\w+)(<[^>]*>)?')
 ANY = re.compile(r'^ *(?:[\w()]+ |"C" )*fn \w')
 
 
@@ -11,11 +11,12 @@ class Unknown(Exception):
 
 
 class Function(NamedTuple):
-    """A function's name, as `f` or `S.f`, whether it is public, the words of its clauses, and the comment above it."""
+    """A function's name, as `f` or `S.f`, whether it is public, the words of its clauses, the comment above it, and the traits that bound its type parameters."""
     name: str
     public: bool
     clauses: frozenset
     comment: str
+    bounds: frozenset
 
 
 def clauses(lines, indent):
@@ -48,7 +49,8 @@ def functions(text):
         owner = block.group(1) if block else None if line == '}' else owner
         found = FUNCTION.match(line)
         if found:
-            indent, public, name = found.groups()
-            yield Function(f'{owner}.{name}' if owner else name, public is not None, clauses(lines[number:], indent), comment(lines[:number]))
+            indent, public, name, parameters = found.groups()
+            bounds = frozenset(re.findall(r'[:+] *(\w+)', parameters or ''))
+            yield Function(f'{owner}.{name}' if owner else name, public is not None, clauses(lines[number:], indent), comment(lines[:number]), bounds)
         elif ANY.match(line):
             raise Unknown(f'a function that is not read: {line.strip()}')
