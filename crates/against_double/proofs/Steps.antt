@@ -1,5 +1,5 @@
 -- The steps of the three loops: a peak, a count of doublings and a least one go on by one place. Assumes nothing.
-use Rattle.std.proofs.Common.{◌≡◌, ℕ, suc, ◌+◌, ◌-◌, ◌<◌, ◌≤◌, min, true, false, List, length, get_or, take, sym, refl, true≢false, add-one, arith, length-take}
+use Rattle.std.proofs.Common.{◌≡◌, ℕ, suc, ◌+◌, ◌-◌, ◌<◌, ◌≤◌, min, true, false, List, get_or, sym, refl, true≢false, add-one, arith}
 use lib.Ieee.{Float, nan, inf, fin, binary64, add, le, is_nan}
 use Rattle.against_double.specs.Near.{sum_of, magnitude, larger, peak, doublings, near, least}
 
@@ -8,10 +8,6 @@ unfolding is_nan
 is_nan_lem nan e = refl
 is_nan_lem (inf s) e = absurd (true≢false (sym e))
 is_nan_lem (fin s m k) e = absurd (true≢false (sym e))
-
--- a part of a list is no longer than it was told to be
-pub within : {A : Type 0} (n m : ℕ) (l : List A) → n ≤ m → length (take n l) ≤ m
-within n m l h = rw (length-take n l) (omega arith)
 
 pub peak-more : (b : List ℕ) (i : ℕ) → peak b (i + 1) ≡ larger (peak b i) (magnitude (sum_of b i))
 unfolding peak

@@ -49,9 +49,9 @@ impl Worst {
         ensures { (result.lines ≡ min self.lines lines) × (result.energies ≡ min self.energies energies) × (result.samples ≡ min self.samples samples) }
     {
         Worst {
-            lines: near::fewer(self.lines, lines),
-            energies: near::fewer(self.energies, energies),
-            samples: near::fewer(self.samples, samples),
+            lines: self.lines.min(lines),
+            energies: self.energies.min(energies),
+            samples: self.samples.min(samples),
         }
     }
 
@@ -59,27 +59,8 @@ impl Worst {
     fn passes(self) -> bool
         ensures { result ≡ nat_le 20 (min (min self.lines self.energies) self.samples) }
     {
-        LIMIT <= near::fewer(near::fewer(self.lines, self.energies), self.samples)
+        LIMIT <= self.lines.min(self.energies).min(self.samples)
     }
-}
-
-fn samples_room() -> [i16; 480]
-    ensures { 480 ≡ length result }
-{
-    [0i16; 480]
-}
-
-fn floats_room() -> [f32; 480]
-    ensures { 480 ≡ length result }
-{
-    [0.0; 480]
-}
-
-// Room for the peaks, which are compared with nothing here.
-fn places_room() -> [usize; 480]
-    ensures { 480 ≡ length result }
-{
-    [0usize; 480]
 }
 
 // Fills buf from the file. Whether all of it was there.
@@ -150,7 +131,8 @@ fn analyse_in(
     let config = channel.config;
     let framed = channel.frame(frame, lines);
     let next = framed.channel;
-    measurement::measure(config, lines, energies, peaks);
+    // the stored frames are of the configuration's lengths, and a refusal would leave zeros to compare
+    let _ = measurement::measure(config, lines, energies, peaks);
     let by_lines = compare(file, lines);
     let by_energies = compare(file, energies);
     Analysed {
@@ -164,10 +146,10 @@ fn analyse_in(
 fn analyse(file: &File, channel: analysis::Channel, nf: usize, nb: usize) -> Analysed
     requires { (nf ≤ 480) × (nb ≤ 480) }
 {
-    let mut frame = samples_room();
-    let mut lines = floats_room();
-    let mut energies = floats_room();
-    let mut peaks = places_room();
+    let mut frame = [0i16; 480];
+    let mut lines = [0.0; 480];
+    let mut energies = [0.0; 480];
+    let mut peaks = [0usize; 480]; // which are compared with nothing here
     analyse_in(
         file,
         channel,
@@ -201,8 +183,8 @@ fn play_in(
 fn play(file: &File, channel: synthesis::Channel, ne: usize, nf: usize) -> Played
     requires { (ne ≤ 480) × (nf ≤ 480) }
 {
-    let mut lines = floats_room();
-    let mut samples = floats_room();
+    let mut lines = [0.0; 480];
+    let mut samples = [0.0; 480];
     play_in(file, channel, &mut lines[..ne], &mut samples[..nf])
 }
 

@@ -29,12 +29,14 @@ fn sum(b: &[u8], k: usize) -> f64
     double(long(call_log::rest(b, 8 * k)))
 }
 
+// Not `abs`, which is another value at -0.0: the definition may not change its meaning.
 fn magnitude(x: f64) -> f64
     ensures { result ≡ magnitude x }
 {
     if x < 0.0 { -x } else { x }
 }
 
+// Not `max`, which is another value beside a NaN: the definition may not change its meaning.
 fn larger(a: f64, b: f64) -> f64
     ensures { result ≡ larger a b }
 {
@@ -47,10 +49,8 @@ fn peak(b: &[u8], n: usize) -> f64
     ensures { result ≡ peak b.now n }
 {
     let mut p = 0.0;
-    let mut i = 0;
-    while i < n {
+    for i in 0..n {
         p = larger(p, magnitude(sum(b, i)));
-        i += 1;
     }
     p
 }
@@ -60,12 +60,9 @@ fn doublings(error: f64, p: f64) -> usize
     ensures { result ≡ doublings 60 error p }
 {
     let mut d = error;
-    let mut n = 0;
-    while n < 60 {
-        d = d + d;
-        if d <= p {
-            n += 1;
-        } else {
+    for n in 0..60 {
+        d += d;
+        if !(d <= p) {
             return n;
         }
     }
@@ -79,23 +76,14 @@ fn near(x: f32, s: f64, p: f64) -> usize
     doublings(magnitude(std::num::f32_to_f64_with_nan(x) - s), p)
 }
 
-// The fewer of two.
-pub fn fewer(a: usize, b: usize) -> usize
-    ensures { result ≡ min a b }
-{
-    if a < b { a } else { b }
-}
-
 // The same for the value of `values` that is the least near.
 fn least(values: &[f32], b: &[u8], p: f64) -> usize
     requires { length values.now ≤ 1024 }
     ensures { result ≡ least values.now b.now p (length values.now) }
 {
     let mut r = 60;
-    let mut i = 0;
-    while i < values.len() {
-        r = fewer(r, near(values[i], sum(b, i), p));
-        i += 1;
+    for (i, x) in values.iter().enumerate() {
+        r = r.min(near(*x, sum(b, i), p));
     }
     r
 }

@@ -1,13 +1,13 @@
 -- Analysis: a frame to lines (`ModDiscreteCosTrans::run` of the encoder, but for its energies and flag), and the calls of a channel: `clear`, and a frame by value (`frame`) and in place (`frame_at`). Definitions only.
-use Rattle.std.specs.Prelude.{not, cond, List, ◌++◌, ℕ, zero, suc, ◌-◌, ℤ, pos, eqb, length, get_or, replicate, Float}
+use Rattle.std.specs.Prelude.{not, cond, List, ◌++◌, ℕ, zero, suc, ◌-◌, ℤ, pos, eqb, length, get_or, replicate, Float, ⊤, Result}
 use Rattle.laws.specs.Lists.{tab}
 use Rattle.config.specs.Config.{valid, nf, z}
+use Rattle.refusals.specs.declared.Refusal.{Refusal}
+use Rattle.refusals.specs.declared.Answered.{Answered}
 use Rattle.refusals.specs.Refusals as refusals
 use Rattle.analysis_steps.specs.Buffer.{past_of}
 use Rattle.analysis_lines.specs.Lines.{time_buffer, lines_of}
 use Rattle.analysis.specs.declared.Channel.{Channel}
-use Rattle.analysis.specs.declared.Cleared.{Cleared}
-use Rattle.analysis.specs.declared.Framed.{Framed}
 
 -- ---- THE DEFINITION, refusals aside
 -- what is kept of the frame: places nf to 2 nf - z - 1 of its time buffer, then zeros
@@ -28,6 +28,11 @@ abbrev pub silent : ℕ → Channel
 silent c = channel_of c (replicate 300 (pos 0))
 
 -- ---- `clear`
+-- what a clear gives: number, and a channel
+pub record Cleared : Type 0 where
+  pub number : ℕ
+  pub channel : Channel
+
 -- a number, and a channel of configuration c with nothing in its past
 abbrev pub cleared_as : ℕ → ℕ → Cleared
 cleared_as n c = record { number = n; channel = silent c }
@@ -71,10 +76,14 @@ frames ch x = framed (number ch.config x) ch x
 abbrev pub lent : List ℤ → List Float → Lent
 lent x l = record { input = x; lines = l }
 
--- a call's return and the lines' slice at its end, as the definition has them
-abbrev pub outcome : Framed → List Float → Given × Channel
-outcome r l = (record { number = r.number; lines = l }, r.channel)
+-- a clear's return, as the definition has it
+abbrev pub cleared_by : Answered Channel → Cleared
+cleared_by r = record { number = (refusals.told_by r.told).number; channel = r.channel }
 
--- the same of a channel that stays where it is: its configuration c, and its samples at the call's end; n is the number returned
-abbrev pub outcome_at : ℕ → ℕ → List ℤ → List Float → Given × Channel
-outcome_at c n s l = (record { number = n; lines = l }, channel_of c s)
+-- a call's return and the lines' slice at its end, as the definition has them
+abbrev pub outcome : Answered Channel → List Float → Given × Channel
+outcome r l = (record { number = (refusals.told_by r.told).number; lines = l }, r.channel)
+
+-- the same of a channel that stays where it is: its configuration c, and its samples at the call's end; r is what is returned
+abbrev pub outcome_at : ℕ → Result ⊤ Refusal → List ℤ → List Float → Given × Channel
+outcome_at c r s l = (record { number = (refusals.told_by r).number; lines = l }, channel_of c s)

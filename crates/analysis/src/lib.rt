@@ -4,9 +4,12 @@
 
 #![tactic(auto)]
 
-ghost use Rattle.std.specs.Prelude.{◌≡◌, T, length};
+ghost use Rattle.std.specs.Prelude.{◌≡◌, T, length, Ok};
 ghost use Rattle.config.specs.Config.{valid, nf};
-ghost use Rattle.analysis.specs.Analysis.{channel_of, channel_past, silent, cleared, number, accepted, frames, lent, outcome, outcome_at};
+ghost use Rattle.refusals.specs.Refusals.{told, told_by};
+ghost use Rattle.analysis.specs.Analysis.{channel_of, channel_past, silent, cleared, number, accepted, frames, lent, cleared_by, outcome, outcome_at};
+
+use refusals::{Answered, Refusal};
 
 // What a stream keeps between frames: the last samples of the frame before, and zeros at the places that its configuration has no use for.
 #[repr(C)]
@@ -14,20 +17,6 @@ ghost use Rattle.analysis.specs.Analysis.{channel_of, channel_past, silent, clea
 pub struct Channel {
     pub config: u8,
     pub samples: [i16; 300],
-}
-
-#[repr(C)]
-#[derive(Clone, Copy)]
-pub struct Cleared {
-    pub number: u8,
-    pub channel: Channel,
-}
-
-#[repr(C)]
-#[derive(Clone, Copy)]
-pub struct Framed {
-    pub number: u8,
-    pub channel: Channel,
 }
 
 impl Channel {
@@ -43,41 +32,42 @@ impl Channel {
 fn silent(config: u8) -> Channel
     ensures { result ≡ silent config }
 {
-    Channel::new(config, analysis_steps::silence_300())
+    Channel::new(config, [0i16; 300])
 }
 
-// Entry. A fresh channel; of a number that is no configuration, number 1 and a channel of configuration 255.
-pub fn clear(config: u8) -> Cleared
-    ensures { result ≡ cleared config }
+// Entry. A fresh channel; of a number that is no configuration, a refusal and a channel of configuration 255.
+pub fn clear(config: u8) -> Answered<Channel>
+    ensures { cleared_by result ≡ cleared config }
 {
     let told = refusals::on_clear(config);
-    Cleared {
-        number: told.number,
-        channel: silent(told.config),
+    let of = if told.is_ok() { config } else { 255 };
+    Answered {
+        told,
+        channel: silent(of),
     }
 }
 
-// The number of a call's refusal, 0 where it is accepted.
-fn number(c: u8, input: &[i16], lines: &[f32]) -> u8
-    ensures { result ≡ number c (lent input.now lines.now) }
+// Whether a call is refused, in the order of document 01's table.
+fn judge(c: u8, input: &[i16], lines: &[f32]) -> Result<(), Refusal>
+    ensures { told_by result ≡ told (number c (lent input.now lines.now)) }
 {
     if !config::valid(c) {
-        return refusals::BAD_CONFIG;
+        return Err(Refusal::BadConfig);
     }
     let nf = config::nf(c);
     if input.len() != nf {
-        return refusals::BAD_INPUT;
+        return Err(Refusal::BadInput);
     }
     if lines.len() != nf {
-        return refusals::BAD_OUTPUT;
+        return Err(Refusal::BadOutput);
     }
-    refusals::ACCEPTED
+    Ok(())
 }
 
 // The step of a call that is not refused. The samples, of 300 places, come as a slice: the checker follows no part of an array behind a reference.
 fn step(c: u8, samples: &mut [i16], input: &[i16], lines: &mut [f32])
     requires { T (valid c) × (length input.now ≡ nf c) × (length lines.old ≡ nf c) × (length samples.old ≡ 300) }
-    ensures { accepted c (channel_past (channel_of c samples.old)) input.now ≡ outcome_at c 0 samples.new lines.new }
+    ensures { accepted c (channel_past (channel_of c samples.old)) input.now ≡ outcome_at c (Ok tt) samples.new lines.new }
 {
     let z = config::z(c);
     let keep = input.len() - z;
@@ -85,30 +75,32 @@ fn step(c: u8, samples: &mut [i16], input: &[i16], lines: &mut [f32])
     analysis_steps::keep(input, z, samples);
 }
 
-// Entry. A frame of samples to its lines, on a channel that stays where it is: its configuration, and its samples, lent. Returns the number.
-// A refusal writes nothing.
-pub fn frame_at(config: u8, samples: &mut [i16; 300], input: &[i16], lines: &mut [f32]) -> u8
+// Entry. A frame of samples to its lines, on a channel that stays where it is: its configuration, and its samples, lent. A refusal writes nothing.
+pub fn frame_at(
+    config: u8,
+    samples: &mut [i16; 300],
+    input: &[i16],
+    lines: &mut [f32],
+) -> Result<(), Refusal>
     ensures { frames (channel_of config samples.old) (lent input.now lines.old)
         ≡ outcome_at config result samples.new lines.new }
 {
-    let told = number(config, input, lines);
-    if told == refusals::ACCEPTED {
-        step(config, samples, input, lines);
-    }
-    told
+    judge(config, input, lines)?;
+    step(config, samples, input, lines);
+    Ok(())
 }
 
 impl Channel {
     // Entry. The same with the channel handed in and back.
-    pub fn frame(self, input: &[i16], lines: &mut [f32]) -> Framed
+    pub fn frame(self, input: &[i16], lines: &mut [f32]) -> Answered<Channel>
         ensures { frames self (lent input.now lines.old) ≡ outcome result lines.new }
     {
         let config = self.config;
-        let mut framed = Framed {
-            number: refusals::ACCEPTED,
+        let mut answered = Answered {
+            told: Ok(()),
             channel: self,
         };
-        framed.number = frame_at(config, &mut framed.channel.samples, input, lines);
-        framed
+        answered.told = frame_at(config, &mut answered.channel.samples, input, lines);
+        answered
     }
 }

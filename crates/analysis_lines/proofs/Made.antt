@@ -38,10 +38,3 @@ made_fold c n past x v ep en ew e =
 pub made-lines : (c k : ℕ) (past x : List ℤ) {g : Float} {a b d : List Float} → a ≡ folded (nf c) (window c) (time_buffer c past x) → b ≡ dct_iv a → g ≡ gain k → k ≡ nf c → d ≡ scaled g b → d ≡ lines_of c past x
 unfolding lines_of mdct
 made-lines c k past x ea eb eg ek ed = ed ∙ ap₂ scaled (eg ∙ ap gain ek) (eb ∙ ap dct_iv ea)
-
--- an arm's number in place of the configuration, and back
-pub at_arm : {c k p n m : ℕ} → c ≡ k → p ≡ nf c - z c → n ≡ nf c → m ≡ nf c → (p ≡ nf k - z k) × (n ≡ nf k) × (m ≡ nf k)
-at_arm e ep en em = (ep ∙ ap (λ (k : ℕ). nf k - z k) e, en ∙ ap nf e, em ∙ ap nf e)
-
-pub of_arm : {c k : ℕ} (past x : List ℤ) {a : List Float} → c ≡ k → a ≡ folded (nf k) (window k) (time_buffer k past x) → a ≡ folded (nf c) (window c) (time_buffer c past x)
-of_arm past x e h = h ∙ ap (λ (k : ℕ). folded (nf k) (window k) (time_buffer k past x)) (sym e)

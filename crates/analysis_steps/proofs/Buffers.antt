@@ -1,26 +1,13 @@
--- The time buffer: what its step makes of a past and a frame; and a copy to the front of zeros. Assumes nothing.
-use mathlib.Core.Path.{◌≡◌, sym, ap, ◌∙◌}
+-- The time buffer: what its step makes of a past and a frame. Assumes nothing.
+use mathlib.Core.Path.{◌≡◌, ap, ◌∙◌}
 use mathlib.Core.List.{List, ◌++◌, append_assoc}
-use Prim.Native.Nat.{ℕ, zero, suc, ◌+◌, ◌-◌}
-use native.Mathlib.Nat.{zero-add, sub-zero}
+use Prim.Native.Nat.{ℕ, ◌+◌, ◌-◌}
 use native.Mathlib.Omega.{arith}
 use lib.IntN.{ℤ, pos}
 use lib.ListN.{length, take, drop, length-drop, length-replicate}
-use lib.Seq.{paste, take-length, take_at, drop_at, drop-append-add, drop-append-le}
+use lib.Seq.{take_at, drop_at, drop-append-add, drop-append-le}
 use Rattle.analysis_steps.specs.Buffer.{past_of, buffer_step, buffer_of}
 use Rattle.analysis_steps.specs.Runs.{quiet}
-
-drop-quiet : (n m : ℕ) → drop n (quiet m) ≡ quiet (m - n)
-drop-quiet zero m = ap quiet (sym (sub-zero m))
-drop-quiet (suc n) zero = let e : 0 ≡ 0 - suc n = omega arith in ap quiet e
-drop-quiet (suc n) (suc m) = let e : m - n ≡ suc m - suc n = omega arith in drop-quiet n m ∙ ap quiet e
-
--- a copy to the front of zeros
-pub onto_quiet : (n : ℕ) (s : List ℤ) → paste (quiet n) 0 s (length s) ≡ s ++ quiet (n - length s)
-onto_quiet n s =
-    ap (λ (l : List ℤ). l ++ drop (0 + length s) (quiet n)) (take-length s)
-    ∙ ap (λ (k : ℕ). s ++ drop k (quiet n)) (zero-add (length s))
-    ∙ ap (λ (l : List ℤ). s ++ l) (drop-quiet (length s) n)
 
 module _ (n z : ℕ) (p : List ℤ) (fits : length p + z ≡ n) where
   -- a buffer that holds a past gives it

@@ -4,8 +4,8 @@ use mathlib.Core.List.{List, ◌++◌, append_assoc}
 use Prim.Native.Nat.{ℕ, ◌+◌, ◌-◌, ◌*◌, ◌/◌, ◌≤◌, ◌<◌}
 use native.Mathlib.Omega.{arith}
 use lib.IntN.{ℤ, pos}
-use lib.ListN.{length, length-append, get_or-replicate, get_or-append}
-use lib.Seq.{get_or-append-add}
+use lib.ListN.{length, drop, length-append, get_or-replicate, get_or-append}
+use lib.Seq.{get_or-append-add, get_or-drop}
 use lib.Ieee.{Float, binary32, sub, of_int, of_bits}
 use Rattle.laws.specs.Lists.{tab}
 use Rattle.laws.proofs.Lists.{tab_ext}
@@ -13,7 +13,6 @@ use Rattle.analysis_steps.specs.Buffer.{buffer_step, buffer_of}
 use Rattle.analysis_steps.specs.Fold.{weighed, fold_low, fold_high, folded}
 use Rattle.analysis_steps.specs.Runs.{quiet, low, low_at, still}
 use Rattle.analysis_steps.proofs.Buffers.{step_of}
-use Rattle.analysis_steps.proofs.Parts.{rest, get_or-rest}
 
 -- place j of two lists, one behind the other, weighed: it is in the first, in the second, or in zeros
 module _ (a b : List ℤ) (w : List ℕ) (j k : ℕ) where
@@ -21,9 +20,9 @@ module _ (a b : List ℤ) (w : List ℕ) (j k : ℕ) where
   unfolding weighed
   weighed_front e h = rw (e, get_or-append a b (pos 0) k h)
 
-  weighed_back : j ≡ length a + k → weighed b (rest (length a) w) k ≡ weighed (a ++ b) w j
+  weighed_back : j ≡ length a + k → weighed b (drop (length a) w) k ≡ weighed (a ++ b) w j
   unfolding weighed
-  weighed_back e = rw (e, get_or-append-add a b k (pos 0), get_or-rest (length a) w k)
+  weighed_back e = rw (e, get_or-append-add a b k (pos 0), get_or-drop (length a) w k)
 
 weighed-quiet : (a : List ℤ) (z : ℕ) (w : List ℕ) (j k : ℕ) → j ≡ length a + k → k < z → still w (length a + k) ≡ weighed (a ++ quiet z) w j
 unfolding weighed of_int of_bits
@@ -39,7 +38,7 @@ module _ (x : List ℤ) (w : List ℕ) (z h : ℕ) (small : z ≤ h) (whole : le
 
 -- the second half: the run that meets the frame, and the past's
 module _ (past x : List ℤ) (w : List ℕ) (z h : ℕ) (small : z ≤ h) (whole : length past + z ≡ 2 * h) where
-  pub meet_run : (i : ℕ) → i < z → sub binary32 (weighed past w (0 + i)) (weighed x (rest (length past) w) (z - 1 - i)) ≡ fold_high h w (past ++ x) i
+  pub meet_run : (i : ℕ) → i < z → sub binary32 (weighed past w (0 + i)) (weighed x (drop (length past) w) (z - 1 - i)) ≡ fold_high h w (past ++ x) i
   unfolding fold_high
   meet_run i b = ap₂ (sub binary32) (weighed_front past x w _ _ (omega arith) (omega arith)) (weighed_back past x w _ _ (omega arith))
 
@@ -48,18 +47,21 @@ module _ (past x : List ℤ) (w : List ℕ) (z h : ℕ) (small : z ≤ h) (whole
   past_run i b = ap₂ (sub binary32) (weighed_front past x w _ _ refl (omega arith)) (weighed_front past x w _ _ (omega arith) (omega arith))
 
 -- both halves are the buffer's
-pub halves : (past x : List ℤ) (w : List ℕ) (n z : ℕ) → n ≡ 2 * (n / 2) → length x ≡ n → length past + z ≡ n → z ≤ n / 2
-    → tab (n / 2) (low_at (x ++ quiet z) (rest (length past) w) (n / 2 + z)) ++ tab (n - n / 2) (fold_high (n - n / 2) w (past ++ x))
-    ≡ folded n w (buffer_step n z (buffer_of n z past) x)
+pub halves : (past x : List ℤ) (w : List ℕ) (n z a b : ℕ) {p q : List Float} → n ≡ 2 * (n / 2) → length x ≡ n → length past + z ≡ n → z ≤ n / 2
+    → p ≡ tab a (low_at (x ++ quiet z) (drop (length past) w) (a + z)) → a ≡ n / 2
+    → q ≡ tab b (fold_high b w (past ++ x)) → b ≡ n / 2
+    → p ++ q ≡ folded n w (buffer_step n z (buffer_of n z past) x)
 unfolding folded fold_low fold_high
-halves past x w n z even frame fits small =
+halves past x w n z a b even frame fits small c d e f =
     let h = n / 2 in
     let t = x ++ quiet z in
-    let e : n - h ≡ h = omega arith in
     let long = length-append past x in
     ap₂ (λ (s t : List Float). s ++ t)
-    (tab_ext h _ (fold_low h w (past ++ t)) (λ i b. ap₂ low (weighed_back past t w _ _ (omega arith)) (weighed_back past t w _ _ (omega arith)))
+    (c
+    ∙ ap (λ (i : ℕ). tab i (low_at t (drop (length past) w) (i + z))) d
+    ∙ tab_ext h _ (fold_low h w (past ++ t)) (λ i b. ap₂ low (weighed_back past t w _ _ (omega arith)) (weighed_back past t w _ _ (omega arith)))
     ∙ ap (λ (l : List ℤ). tab h (fold_low h w l)) (sym (append_assoc past x (quiet z))))
-    (ap (λ (i : ℕ). tab i (fold_high i w (past ++ x))) e
+    (e
+    ∙ ap (λ (i : ℕ). tab i (fold_high i w (past ++ x))) f
     ∙ tab_ext h _ (fold_high h w (past ++ x ++ quiet z)) (λ i b. ap₂ (sub binary32) (weighed_front (past ++ x) (quiet z) w _ _ refl (omega arith)) (weighed_front (past ++ x) (quiet z) w _ _ refl (omega arith))))
     ∙ ap (folded n w) (sym (step_of n z past fits x))

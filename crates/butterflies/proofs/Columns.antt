@@ -12,7 +12,8 @@ use lib.ListN.{length}
 use Rattle.complex.specs.declared.Complex.{Complex}
 use Rattle.complex.specs.Complex.{at}
 use Rattle.quads.specs.Rows.{rows, turned, turned_columns}
-use Rattle.quads.proofs.Rows.{col_of, rows_at, rows_off, Through}
+use Rattle.quads.specs.Radix.{Through}
+use Rattle.quads.proofs.Rows.{col_of, rows_at, rows_off}
 use Rattle.butterflies.specs.Butterflies.{stage}
 
 module _ (p m : ℕ) (b : ℕ → (ℕ → Complex) → ℕ → Complex) where

@@ -9,13 +9,93 @@ ghost use Rattle.dct_iv.specs.DctIv as dc;
 ghost use Rattle.analysis.specs.Analysis as an;
 ghost use Rattle.measurement.specs.Measurement as ms;
 ghost use Rattle.synthesis.specs.Synthesis as sy;
-ghost use Rattle.loudest.specs.Loudest.{heard};
-ghost use Rattle.near_nyquist.specs.Sooner.{asked};
-ghost use Rattle.c_api.specs.Layout.{loudest_heard};
+ghost use Rattle.loudest.specs.Loudest.{heard, outcome as heard_by};
+ghost use Rattle.near_nyquist.specs.Sooner.{asked, outcome as asked_by};
+ghost use Rattle.c_api.specs.Layout.{analysis_answered, synthesis_answered, analysis_cleared, analysis_outcome, analysis_outcome_at, measured, measured_outcome, synthesis_cleared, synthesis_outcome, synthesis_outcome_at, loudest_heard, nyquist_asked};
 
 use loudest::Loudest;
-use refusals::Verdict;
+use near_nyquist::Sooner;
+use refusals::{Answered, Refusal, Verdict};
 
+// An analysis channel after a call, and the call's number. No generic struct in place of this one and the next: the C interface has none.
+#[repr(C)]
+#[derive(Clone, Copy)]
+pub struct AnalysisAnswered {
+    pub number: u8,
+    pub channel: analysis::Channel,
+}
+
+impl From<Answered<analysis::Channel>> for AnalysisAnswered {
+    ghost from_gives = { λ answered given. given ≡ analysis_answered answered };
+
+    // Entry. The number of an answer, and its channel.
+    fn from(answered: Answered<analysis::Channel>) -> AnalysisAnswered {
+        AnalysisAnswered {
+            number: Verdict::from(answered.told).number,
+            channel: answered.channel,
+        }
+    }
+}
+
+// A fresh synthesis channel, and the clear's number.
+#[repr(C)]
+#[derive(Clone, Copy)]
+pub struct SynthesisCleared {
+    pub number: u8,
+    pub channel: synthesis::Channel,
+}
+
+impl From<Answered<synthesis::Channel>> for SynthesisCleared {
+    ghost from_gives = { λ answered given. given ≡ synthesis_answered answered };
+
+    // Entry. The number of an answer, and its channel.
+    fn from(answered: Answered<synthesis::Channel>) -> SynthesisCleared {
+        SynthesisCleared {
+            number: Verdict::from(answered.told).number,
+            channel: answered.channel,
+        }
+    }
+}
+
+// A synthesis frame's answer.
+#[repr(C)]
+#[derive(Clone, Copy)]
+pub struct SynthesisFramed {
+    pub number: u8,
+    pub index: usize,
+    pub channel: synthesis::Channel,
+}
+
+// A measurement's answer.
+#[repr(C)]
+#[derive(Clone, Copy)]
+pub struct Measured {
+    pub number: u8,
+    pub index: usize,
+    pub flag: bool,
+}
+
+impl From<Result<bool, Refusal>> for Measured {
+    ghost from_gives = { λ told given. given ≡ measured told };
+
+    // Entry. The numbers of an answer, and its flag.
+    fn from(told: Result<bool, Refusal>) -> Measured {
+        match told {
+            Ok(flag) => Measured {
+                number: 0,
+                index: 0,
+                flag,
+            },
+            Err(refusal) => Measured {
+                number: refusal.number(),
+                index: refusal.index(),
+                flag: false,
+            },
+        }
+    }
+}
+
+// The loudest band's answer: band and product are 0 where it is quiet.
 #[repr(C)]
 #[derive(Clone, Copy)]
 pub struct LoudestHeard {
@@ -24,6 +104,67 @@ pub struct LoudestHeard {
     pub loud: bool,
     pub band: usize,
     pub product: f32,
+}
+
+impl From<Result<Loudest, Refusal>> for LoudestHeard {
+    ghost from_gives = { λ told given. given ≡ loudest_heard (heard_by told) };
+
+    // Entry. The numbers of an answer, and its band.
+    fn from(told: Result<Loudest, Refusal>) -> LoudestHeard {
+        let quiet = LoudestHeard {
+            number: 0,
+            index: 0,
+            loud: false,
+            band: 0,
+            product: 0.0,
+        };
+        match told {
+            Ok(Loudest::Quiet) => quiet,
+            Ok(Loudest::Loud(band, product)) => LoudestHeard {
+                loud: true,
+                band,
+                product,
+                ..quiet
+            },
+            Err(refusal) => LoudestHeard {
+                number: refusal.number(),
+                index: refusal.index(),
+                ..quiet
+            },
+        }
+    }
+}
+
+// The answer on nearness to the Nyquist frequency, and how many bands were read for it.
+#[repr(C)]
+#[derive(Clone, Copy)]
+pub struct Asked {
+    pub number: u8,
+    pub index: usize,
+    pub answer: bool,
+    pub read: usize,
+}
+
+impl From<Result<Sooner, Refusal>> for Asked {
+    ghost from_gives = { λ told given. given ≡ nyquist_asked (asked_by told) };
+
+    // Entry. The numbers of an answer, and what it says.
+    fn from(told: Result<Sooner, Refusal>) -> Asked {
+        match told {
+            Ok(Sooner { answer, read }) => Asked {
+                number: 0,
+                index: 0,
+                answer,
+                read,
+            },
+            Err(refusal) => Asked {
+                number: refusal.number(),
+                index: refusal.index(),
+                answer: false,
+                read: 0,
+            },
+        }
+    }
 }
 
 // Entry. The FFT, forward or inverse.
@@ -38,7 +179,7 @@ pub extern "C" fn loamscarf_fft(
 ) -> Verdict
     ensures { ft.outcome result re_out.new im_out.new ≡ ft.answer size inverse re_in.now im_in.now re_out.old im_out.old }
 {
-    kissfft::fft(size, inverse, re_in, im_in, re_out, im_out)
+    Verdict::from(kissfft::fft(size, inverse, re_in, im_in, re_out, im_out))
 }
 
 // Entry. The DCT-IV, in place.
@@ -46,15 +187,15 @@ pub extern "C" fn loamscarf_fft(
 pub extern "C" fn loamscarf_dct_iv(length: usize, buf: &mut [f32]) -> Verdict
     ensures { dc.outcome result buf.new ≡ dc.answer length buf.old }
 {
-    dct_iv::dct_iv(length, buf)
+    Verdict::from(dct_iv::dct_iv(length, buf))
 }
 
 // Entry. A fresh analysis channel.
 #[unsafe(no_mangle)]
-pub extern "C" fn loamscarf_analysis_clear(config: u8) -> analysis::Cleared
-    ensures { result ≡ an.cleared config }
+pub extern "C" fn loamscarf_analysis_clear(config: u8) -> AnalysisAnswered
+    ensures { result ≡ analysis_cleared (an.cleared config) }
 {
-    analysis::clear(config)
+    AnalysisAnswered::from(analysis::clear(config))
 }
 
 // Entry. A frame of samples to lines. Not through `Channel::frame`: the compiler would copy the channel once more.
@@ -63,15 +204,13 @@ pub extern "C" fn loamscarf_analysis_frame(
     channel: analysis::Channel,
     input: &[i16],
     lines: &mut [f32],
-) -> analysis::Framed
-    ensures { an.frames channel (an.lent input.now lines.old) ≡ an.outcome result lines.new }
+) -> AnalysisAnswered
+    ensures { an.frames channel (an.lent input.now lines.old) ≡ analysis_outcome result lines.new }
 {
     let config = channel.config;
-    let mut framed = analysis::Framed {
-        number: refusals::ACCEPTED,
-        channel,
-    };
-    framed.number = analysis::frame_at(config, &mut framed.channel.samples, input, lines);
+    let mut framed = AnalysisAnswered { number: 0, channel };
+    let told = analysis::frame_at(config, &mut framed.channel.samples, input, lines);
+    framed.number = Verdict::from(told).number;
     framed
 }
 
@@ -83,9 +222,9 @@ pub extern "C" fn loamscarf_analysis_frame_at(
     input: &[i16],
     lines: &mut [f32],
 ) -> u8
-    ensures { an.frames (an.channel_of config samples.old) (an.lent input.now lines.old) ≡ an.outcome_at config result samples.new lines.new }
+    ensures { an.frames (an.channel_of config samples.old) (an.lent input.now lines.old) ≡ analysis_outcome_at config result samples.new lines.new }
 {
-    analysis::frame_at(config, samples, input, lines)
+    Verdict::from(analysis::frame_at(config, samples, input, lines)).number
 }
 
 // Entry. The energies and peaks of lines, and their flag.
@@ -95,30 +234,40 @@ pub extern "C" fn loamscarf_measure(
     lines: &[f32],
     energies: &mut [f32],
     peaks: &mut [usize],
-) -> measurement::Measured
-    ensures { ms.outcome result energies.new peaks.new ≡ ms.measures config (ms.lent lines.now energies.old peaks.old) }
+) -> Measured
+    ensures { measured_outcome result energies.new peaks.new ≡ ms.measures config (ms.lent lines.now energies.old peaks.old) }
 {
-    measurement::measure(config, lines, energies, peaks)
+    Measured::from(measurement::measure(config, lines, energies, peaks))
 }
 
 // Entry. A fresh synthesis channel.
 #[unsafe(no_mangle)]
-pub extern "C" fn loamscarf_synthesis_clear(config: u8) -> synthesis::Cleared
-    ensures { result ≡ sy.cleared config }
+pub extern "C" fn loamscarf_synthesis_clear(config: u8) -> SynthesisCleared
+    ensures { result ≡ synthesis_cleared (sy.cleared config) }
 {
-    synthesis::clear(config)
+    SynthesisCleared::from(synthesis::clear(config))
 }
 
-// Entry. A frame of lines to samples.
+// Entry. A frame of lines to samples. Not through `Channel::frame`, as in analysis.
 #[unsafe(no_mangle)]
 pub extern "C" fn loamscarf_synthesis_frame(
     channel: synthesis::Channel,
     lines: &[f32],
     samples: &mut [f32],
-) -> synthesis::Framed
-    ensures { sy.frames channel (sy.lent lines.now samples.old) ≡ sy.outcome result samples.new }
+) -> SynthesisFramed
+    ensures { sy.frames channel (sy.lent lines.now samples.old) ≡ synthesis_outcome result samples.new }
 {
-    channel.frame(lines, samples)
+    let config = channel.config;
+    let mut framed = SynthesisFramed {
+        number: 0,
+        index: 0,
+        channel,
+    };
+    let told = synthesis::frame_at(config, &mut framed.channel.memory, lines, samples);
+    let verdict = Verdict::from(told);
+    framed.number = verdict.number;
+    framed.index = verdict.index;
+    framed
 }
 
 // Entry. The same on a channel that stays in the caller's memory, of which it gets the configuration and the memory.
@@ -129,9 +278,9 @@ pub extern "C" fn loamscarf_synthesis_frame_at(
     lines: &[f32],
     samples: &mut [f32],
 ) -> Verdict
-    ensures { sy.frames (sy.channel_of config memory.old) (sy.lent lines.now samples.old) ≡ sy.outcome_at config result memory.new samples.new }
+    ensures { sy.frames (sy.channel_of config memory.old) (sy.lent lines.now samples.old) ≡ synthesis_outcome_at config result memory.new samples.new }
 {
-    synthesis::frame_at(config, memory, lines, samples)
+    Verdict::from(synthesis::frame_at(config, memory, lines, samples))
 }
 
 // Entry. The loudest band of the energies of a configuration.
@@ -139,30 +288,13 @@ pub extern "C" fn loamscarf_synthesis_frame_at(
 pub extern "C" fn loamscarf_loudest_band(config: u8, energies: &[f32]) -> LoudestHeard
     ensures { result ≡ loudest_heard (heard config energies.now) }
 {
-    let heard = loudest::loudest_band(config, energies);
-    let loudest = heard.loudest;
-    match loudest {
-        Loudest::Quiet => LoudestHeard {
-            number: heard.number,
-            index: heard.index,
-            loud: false,
-            band: 0,
-            product: 0.0,
-        },
-        Loudest::Loud(band, product) => LoudestHeard {
-            number: heard.number,
-            index: heard.index,
-            loud: true,
-            band,
-            product,
-        },
-    }
+    LoudestHeard::from(loudest::loudest_band(config, energies))
 }
 
 // Entry. Whether the energies of a configuration lie near the Nyquist frequency, and how many bands were read for it.
 #[unsafe(no_mangle)]
-pub extern "C" fn loamscarf_near_nyquist(config: u8, energies: &[f32]) -> near_nyquist::Asked
-    ensures { result ≡ asked config energies.now }
+pub extern "C" fn loamscarf_near_nyquist(config: u8, energies: &[f32]) -> Asked
+    ensures { result ≡ nyquist_asked (asked config energies.now) }
 {
-    near_nyquist::near_nyquist(config, energies)
+    Asked::from(near_nyquist::near_nyquist(config, energies))
 }

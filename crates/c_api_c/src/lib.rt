@@ -9,11 +9,11 @@ ghost use Rattle.dct_iv.specs.DctIv as dc;
 ghost use Rattle.analysis.specs.Analysis as an;
 ghost use Rattle.measurement.specs.Measurement as ms;
 ghost use Rattle.synthesis.specs.Synthesis as sy;
-ghost use Rattle.loudest.specs.Loudest.{heard};
-ghost use Rattle.near_nyquist.specs.Sooner.{asked};
-ghost use Rattle.c_api.specs.Layout.{loudest_heard};
+ghost use Rattle.loudest.specs.Loudest.{heard, outcome as heard_by};
+ghost use Rattle.near_nyquist.specs.Sooner.{asked, outcome as asked_by};
+ghost use Rattle.c_api.specs.Layout.{analysis_answered, synthesis_answered, analysis_cleared, analysis_outcome, analysis_outcome_at, measured, measured_outcome, synthesis_cleared, synthesis_outcome, synthesis_outcome_at, loudest_heard, nyquist_asked};
 
-use c_api::LoudestHeard;
+use c_api::{AnalysisAnswered, Asked, LoudestHeard, Measured, SynthesisCleared, SynthesisFramed};
 use refusals::Verdict;
 
 // The FFT, forward or inverse.
@@ -41,8 +41,8 @@ pub extern "C" fn loamscarf_dct_iv(length: usize, buf: &mut [f32]) -> Verdict
 
 // A fresh analysis channel.
 #[unsafe(no_mangle)]
-pub extern "C" fn loamscarf_analysis_clear(config: u8) -> analysis::Cleared
-    ensures { result ≡ an.cleared config }
+pub extern "C" fn loamscarf_analysis_clear(config: u8) -> AnalysisAnswered
+    ensures { result ≡ analysis_cleared (an.cleared config) }
 {
     c_api::loamscarf_analysis_clear(config)
 }
@@ -53,8 +53,8 @@ pub extern "C" fn loamscarf_analysis_frame(
     channel: analysis::Channel,
     input: &[i16],
     lines: &mut [f32],
-) -> analysis::Framed
-    ensures { an.frames channel (an.lent input.now lines.old) ≡ an.outcome result lines.new }
+) -> AnalysisAnswered
+    ensures { an.frames channel (an.lent input.now lines.old) ≡ analysis_outcome result lines.new }
 {
     c_api::loamscarf_analysis_frame(channel, input, lines)
 }
@@ -67,7 +67,7 @@ pub extern "C" fn loamscarf_analysis_frame_at(
     input: &[i16],
     lines: &mut [f32],
 ) -> u8
-    ensures { an.frames (an.channel_of config samples.old) (an.lent input.now lines.old) ≡ an.outcome_at config result samples.new lines.new }
+    ensures { an.frames (an.channel_of config samples.old) (an.lent input.now lines.old) ≡ analysis_outcome_at config result samples.new lines.new }
 {
     c_api::loamscarf_analysis_frame_at(config, samples, input, lines)
 }
@@ -79,16 +79,16 @@ pub extern "C" fn loamscarf_measure(
     lines: &[f32],
     energies: &mut [f32],
     peaks: &mut [usize],
-) -> measurement::Measured
-    ensures { ms.outcome result energies.new peaks.new ≡ ms.measures config (ms.lent lines.now energies.old peaks.old) }
+) -> Measured
+    ensures { measured_outcome result energies.new peaks.new ≡ ms.measures config (ms.lent lines.now energies.old peaks.old) }
 {
     c_api::loamscarf_measure(config, lines, energies, peaks)
 }
 
 // A fresh synthesis channel.
 #[unsafe(no_mangle)]
-pub extern "C" fn loamscarf_synthesis_clear(config: u8) -> synthesis::Cleared
-    ensures { result ≡ sy.cleared config }
+pub extern "C" fn loamscarf_synthesis_clear(config: u8) -> SynthesisCleared
+    ensures { result ≡ synthesis_cleared (sy.cleared config) }
 {
     c_api::loamscarf_synthesis_clear(config)
 }
@@ -99,8 +99,8 @@ pub extern "C" fn loamscarf_synthesis_frame(
     channel: synthesis::Channel,
     lines: &[f32],
     samples: &mut [f32],
-) -> synthesis::Framed
-    ensures { sy.frames channel (sy.lent lines.now samples.old) ≡ sy.outcome result samples.new }
+) -> SynthesisFramed
+    ensures { sy.frames channel (sy.lent lines.now samples.old) ≡ synthesis_outcome result samples.new }
 {
     c_api::loamscarf_synthesis_frame(channel, lines, samples)
 }
@@ -113,7 +113,7 @@ pub extern "C" fn loamscarf_synthesis_frame_at(
     lines: &[f32],
     samples: &mut [f32],
 ) -> Verdict
-    ensures { sy.frames (sy.channel_of config memory.old) (sy.lent lines.now samples.old) ≡ sy.outcome_at config result memory.new samples.new }
+    ensures { sy.frames (sy.channel_of config memory.old) (sy.lent lines.now samples.old) ≡ synthesis_outcome_at config result memory.new samples.new }
 {
     c_api::loamscarf_synthesis_frame_at(config, memory, lines, samples)
 }
@@ -128,8 +128,8 @@ pub extern "C" fn loamscarf_loudest_band(config: u8, energies: &[f32]) -> Loudes
 
 // Whether the energies of a configuration lie near the Nyquist frequency, and how many bands were read for it.
 #[unsafe(no_mangle)]
-pub extern "C" fn loamscarf_near_nyquist(config: u8, energies: &[f32]) -> near_nyquist::Asked
-    ensures { result ≡ asked config energies.now }
+pub extern "C" fn loamscarf_near_nyquist(config: u8, energies: &[f32]) -> Asked
+    ensures { result ≡ nyquist_asked (asked config energies.now) }
 {
     c_api::loamscarf_near_nyquist(config, energies)
 }

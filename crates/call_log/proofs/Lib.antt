@@ -1,4 +1,3 @@
 pub mod Fields
 pub mod Opened
 pub mod Counts
-pub mod Areas

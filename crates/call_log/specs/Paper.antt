@@ -1,16 +1,14 @@
 -- The log's answers in the terms of its own paper: document 01's numbers 8, 9 and 10 of a header, and how many bytes a call takes. Definitions only.
-use Rattle.std.specs.Prelude.{ℕ, List, [], ◌∷◌}
+use Rattle.std.specs.Prelude.{ℕ, List, [], ◌∷◌, Option, Some, None, ⊤, Result}
+use Rattle.refusals.specs.declared.Refusal.{Refusal}
 use Rattle.frame_file.specs.Paper.{Paper}
-use Rattle.call_log.specs.declared.Header.{Header}
-use Rattle.call_log.specs.declared.Taken.{Taken}
-use Rattle.call_log.specs.declared.Taken.TheVariants.{Whole, Stopped}
 use Rattle.call_log.specs.Log.{header_number}
 
 -- a header's number; no case has values
-abbrev pub header_paper : Header → Paper
+abbrev pub header_paper : Result ⊤ Refusal → Paper
 header_paper h = record { number = header_number h; values = [] }
 
 -- the bytes of a whole call. There is no number here: of a call that is cut, unknown or too long the text says `stopped` and which call it was
-abbrev pub taken_values : Taken → List ℕ
-taken_values (Whole n) = n ∷ []
-taken_values Stopped = []
+abbrev pub taken_values : Option ℕ → List ℕ
+taken_values (Some n) = n ∷ []
+taken_values None = []

@@ -1,10 +1,12 @@
 // What a call of each kind is made of.
-ghost use Rattle.std.specs.Prelude.{◌≡◌, ◌<◌, length, get_or};
-ghost use Rattle.call_log.specs.Log.{rows, six, each, field_of};
-ghost use Rattle.call_log.specs.declared.layout.Field.TheVariants.{Unknown};
+ghost use Rattle.std.specs.Prelude.{◌≡◌, length};
+ghost use Rattle.call_log.specs.Log.{fields_of};
 
-// A part of a call. Samples and Floats are a count, at most the number that they carry, and that many values.
-#[derive(Clone, Copy)]
+use Field::{Byte, Flag, Floats, Length, Nothing, Number, Samples, Unknown};
+
+// A part of a call. Samples and Floats are a count, at most the number that they carry, and that
+// many values.
+#[derive(Clone, Copy, PartialEq, Eq, Debug)]
 pub enum Field {
     Nothing,
     Byte,
@@ -16,67 +18,32 @@ pub enum Field {
     Unknown,
 }
 
-// The fields of a call, in its order.
-#[derive(Clone, Copy)]
-struct Row(Field, Field, Field, Field, Field, Field);
+// The fields of a call of each kind, in its order.
+static ROWS: [[Field; 6]; 15] = [
+    [Unknown, Nothing, Nothing, Nothing, Nothing, Nothing], // 0: no call
+    [Byte, Nothing, Nothing, Nothing, Nothing, Nothing], // 1: clear of the analysis channel
+    [Samples(1024), Length, Length, Length, Nothing, Nothing], // 2: analysis frame
+    [Byte, Nothing, Nothing, Nothing, Nothing, Nothing], // 3: clear of the synthesis channel
+    [Floats(1024), Length, Nothing, Nothing, Nothing, Nothing], // 4: synthesis frame
+    [Number, Flag, Floats(1024), Floats(1024), Length, Length], // 5: FFT
+    [Number, Floats(1024), Nothing, Nothing, Nothing, Nothing], // 6: DCT
+    [Byte, Floats(1024), Nothing, Nothing, Nothing, Nothing], // 7: loudest band
+    [Nothing, Nothing, Nothing, Nothing, Nothing, Nothing], // 8: show both channels
+    [Byte, Samples(300), Nothing, Nothing, Nothing, Nothing], // 9: set the analysis channel
+    [Byte, Floats(300), Nothing, Nothing, Nothing, Nothing], // 10: set the synthesis channel
+    [Samples(1024), Length, Nothing, Nothing, Nothing, Nothing], // 11: frame to lines alone
+    [Byte, Floats(1024), Length, Length, Nothing, Nothing], // 12: measurement alone
+    [Unknown, Nothing, Nothing, Nothing, Nothing, Nothing], // 13: no call
+    [Byte, Floats(1024), Nothing, Nothing, Nothing, Nothing], // 14: the flag, sooner
+];
 
-// The row of each kind. A field that several rows have stands in a local, which makes the check quicker than a constant would.
-fn rows() -> [Row; 15]
-    ensures value { each result ≡ rows }
-    ensures count { 15 ≡ length result }
+static NO_CALL: [Field; 6] = [Unknown; 6];
+
+// Inner. The fields of a call of a kind; above the last kind none is known.
+#[tactic(auto, unfolding(crate::specs::Log::fields_of, crate::specs::Log::rows))]
+pub fn fields_of(kind: u8) -> &'static [Field; 6]
+    ensures value { result.now ≡ fields_of kind }
+    ensures count { 6 ≡ length result.now }
 {
-    let none = Field::Nothing;
-    let unknown = Field::Unknown;
-    let byte = Field::Byte;
-    let number = Field::Number;
-    let length = Field::Length;
-    let samples = Field::Samples(1024);
-    let floats = Field::Floats(1024);
-    [
-        Row(unknown, none, none, none, none, none), // 0: no call
-        Row(byte, none, none, none, none, none), // 1: clear of the analysis channel
-        Row(samples, length, length, length, none, none), // 2: analysis frame
-        Row(byte, none, none, none, none, none), // 3: clear of the synthesis channel
-        Row(floats, length, none, none, none, none), // 4: synthesis frame
-        Row(number, Field::Flag, floats, floats, length, length), // 5: FFT
-        Row(number, floats, none, none, none, none), // 6: DCT
-        Row(byte, floats, none, none, none, none), // 7: loudest band
-        Row(none, none, none, none, none, none), // 8: show both channels
-        Row(byte, Field::Samples(300), none, none, none, none), // 9: set the analysis channel
-        Row(byte, Field::Floats(300), none, none, none, none), // 10: set the synthesis channel
-        Row(samples, length, none, none, none, none), // 11: frame to lines alone
-        Row(byte, floats, length, length, none, none), // 12: measurement alone
-        Row(unknown, none, none, none, none, none), // 13: no call
-        Row(byte, floats, none, none, none, none), // 14: the flag, sooner
-    ]
-}
-
-impl Row {
-    // Field i.
-    fn field(self, i: usize) -> Field
-        requires { i < 6 }
-        ensures { result ≡ get_or (six self) i Unknown }
-    {
-        match i {
-            0 => self.0,
-            1 => self.1,
-            2 => self.2,
-            3 => self.3,
-            4 => self.4,
-            _ => self.5,
-        }
-    }
-}
-
-// Inner. Field i of a call of a kind.
-pub fn field_of(kind: usize, i: usize) -> Field
-    requires { i < 6 }
-    ensures { result ≡ field_of kind i }
-{
-    if kind > 14 {
-        return Field::Unknown;
-    }
-    let all = rows();
-    let row = all[kind];
-    row.field(i)
+    ROWS.get(usize::from(kind)).unwrap_or(&NO_CALL)
 }

@@ -1,52 +1,33 @@
-// The log of calls (`LMC`) taken apart: its header, how many bytes a call takes, and the values in it. Every function is total: a byte past
-// the end reads as 0. New in this port.
+// The log of calls (`LMC`) taken apart: its header, how many bytes a call takes, and the values in
+// it. Every function is total: a byte past the end reads as 0. New in this port.
 
 #![tactic(auto)]
 
-ghost use Rattle.std.specs.Prelude.{◌≡◌, ◌+◌, ◌*◌, ◌≤◌, ◌<◌, min, length, get_or, drop, replicate};
+ghost use Rattle.std.specs.Prelude.{◌≡◌, ◌+◌, ◌*◌, ◌≤◌, ◌<◌, min, length, get_or, drop};
 ghost use Rattle.std.specs.Float.Ieee.{of_bits};
 ghost use Rattle.std.specs.Float.{binary32};
 ghost use Rattle.laws.specs.Lists.{tab};
 ghost use Rattle.frame_file.specs.File.{short};
-ghost use Rattle.call_log.specs.Log.{word, Places, sample_of, float_of, before, before_peak, header_of, header_number, within, listed, field_taken, call_taken};
+ghost use Rattle.call_log.specs.Log.{word, Places, sample_of, float_of, before, before_peak, header_of, within, listed, field_taken, call_taken};
 
 mod layout; // layout.rt: the fields of each kind of call
 
 use layout::Field;
-
-// What the first five bytes say.
-#[derive(Clone, Copy)]
-pub enum Header {
-    Good,
-    Short,
-    Unmarked,
-    Foreign,
-}
-
-// How many bytes a call or a part of one takes; stopped where it is cut, unknown or too long.
-#[derive(Clone, Copy)]
-pub enum Taken {
-    Whole(usize),
-    Stopped,
-}
+use refusals::Refusal;
+use std::array;
 
 // Byte k.
 pub fn byte_at(b: &[u8], k: usize) -> u8
     ensures { result ≡ get_or b.now k 0 }
 {
-    if k < b.len() { b[k] } else { 0 }
+    b.get(k).copied().unwrap_or(0)
 }
 
 // The bytes from place k on.
 pub fn rest(b: &[u8], k: usize) -> &[u8]
     ensures { result.now ≡ drop k b.now }
 {
-    if k < b.len() {
-        &b[k..]
-    } else {
-        let end = b.len();
-        &b[end..]
-    }
+    b.get(k..).unwrap_or(&[])
 }
 
 // 16 bits, little-endian, at the front.
@@ -60,7 +41,7 @@ pub fn short(b: &[u8]) -> u16
 pub fn word(b: &[u8]) -> u32
     ensures { result ≡ word b.now }
 {
-    short(b) as u32 + 65536 * (short(rest(b, 2)) as u32)
+    u32::from(short(b)) + 65536 * u32::from(short(rest(b, 2)))
 }
 
 // The f32 of 32 bits. Every NaN's pattern is a NaN.
@@ -79,45 +60,23 @@ pub fn count(b: &[u8]) -> usize
     ensures value { result ≡ min (short b.now) 1024 }
     ensures upper_bound { result ≤ 1024 }
 {
-    let n = short(b) as usize;
-    if n < 1024 { n } else { 1024 }
+    usize::from(short(b)).min(1024)
 }
 
 // How many places of the room a count at the front asks for: all where it is more.
-pub fn count_floats(b: &[u8], room: &[f32]) -> usize
+pub fn count_places<T>(b: &[u8], room: &[T]) -> usize
     ensures value { result ≡ min (short b.now) (length room.now) }
     ensures places { Places result room.now }
 {
-    let n = short(b) as usize;
-    if n < room.len() { n } else { room.len() }
-}
-
-// The same of places for samples.
-pub fn count_samples(b: &[u8], places: &[i16]) -> usize
-    ensures value { result ≡ min (short b.now) (length places.now) }
-    ensures places { Places result places.now }
-{
-    let n = short(b) as usize;
-    if n < places.len() { n } else { places.len() }
-}
-
-// The same of places for peaks.
-pub fn count_places(b: &[u8], peaks: &[usize]) -> usize
-    ensures value { result ≡ min (short b.now) (length peaks.now) }
-    ensures places { Places result peaks.now }
-{
-    let n = short(b) as usize;
-    if n < peaks.len() { n } else { peaks.len() }
+    usize::from(short(b)).min(room.len())
 }
 
 // The samples after the count at the front of b, as many as out has places.
 pub fn samples(b: &[u8], out: &mut [i16])
     ensures { out.new ≡ tab (length out.old) (sample_of b.now) }
 {
-    let mut i = 0;
-    while i < out.len() {
-        out[i] = frame_file::sample(short(rest(b, 2 + 2 * i)));
-        i += 1;
+    for (i, x) in out.iter_mut().enumerate() {
+        *x = frame_file::sample(short(rest(b, 2 + 2 * i)));
     }
 }
 
@@ -125,18 +84,9 @@ pub fn samples(b: &[u8], out: &mut [i16])
 pub fn floats(b: &[u8], out: &mut [f32])
     ensures { out.new ≡ tab (length out.old) (float_of b.now) }
 {
-    let mut i = 0;
-    while i < out.len() {
-        out[i] = float(word(rest(b, 2 + 4 * i)));
-        i += 1;
+    for (i, x) in out.iter_mut().enumerate() {
+        *x = float(word(rest(b, 2 + 4 * i)));
     }
-}
-
-// Room for a count of values.
-fn zeros() -> [f32; 1024]
-    ensures { result ≡ replicate 1024 (of_bits binary32 0) }
-{
-    [0.0; 1024]
 }
 
 // An output area as it is before a call.
@@ -144,20 +94,7 @@ pub fn area() -> [f32; 1024]
     ensures value { result ≡ tab 1024 before }
     ensures places { 1024 ≡ length result }
 {
-    let mut out = zeros();
-    let mut i: u16 = 0;
-    while i < 1024 {
-        out[i as usize] = i as f32 + 0.5;
-        i += 1;
-    }
-    out
-}
-
-// Room for peaks.
-fn zero_places() -> [usize; 1024]
-    ensures { result ≡ replicate 1024 0 }
-{
-    [0usize; 1024]
+    array::from_fn(|i| i as f32 + 0.5)
 }
 
 // A peaks' area as it is before a call.
@@ -165,102 +102,75 @@ pub fn peaks() -> [usize; 1024]
     ensures value { result ≡ tab 1024 before_peak }
     ensures places { 1024 ≡ length result }
 {
-    let mut out = zero_places();
-    let mut i = 0;
-    while i < out.len() {
-        out[i] = i + 7;
-        i += 1;
-    }
-    out
+    array::from_fn(|i| i + 7)
 }
 
-// Entry. What the first five bytes of a log are.
-pub fn read_header(b: &[u8]) -> Header
+// Entry. The test of the first five bytes of a log: 8, 9 and 10.
+pub fn read_header(b: &[u8]) -> Result<(), Refusal>
     ensures { result ≡ header_of b.now }
 {
     if b.len() < 5 {
-        return Header::Short;
+        return Err(Refusal::ShortFile);
     }
     if !frame_file::begins(b, b"LMC") {
-        return Header::Unmarked;
+        return Err(Refusal::BadMark);
     }
     if short(rest(b, 3)) != 3 {
-        return Header::Foreign;
+        return Err(Refusal::BadVersion);
     }
-    Header::Good
-}
-
-// Entry. The number of a header's refusal.
-pub fn header_number(h: Header) -> u8
-    ensures { result ≡ header_number h }
-{
-    match h {
-        Header::Good => refusals::ACCEPTED,
-        Header::Short => refusals::SHORT_FILE,
-        Header::Unmarked => refusals::BAD_MARK,
-        Header::Foreign => refusals::BAD_VERSION,
-    }
+    Ok(())
 }
 
 // n bytes, where b has them.
-fn within(b: &[u8], n: usize) -> Taken
+fn within(b: &[u8], n: usize) -> Option<usize>
     ensures { result ≡ within b.now n }
 {
-    if n <= b.len() {
-        Taken::Whole(n)
-    } else {
-        Taken::Stopped
-    }
+    if n <= b.len() { Some(n) } else { None }
 }
 
 // A count of at most `most`, and that many values of `width` bytes each.
-fn listed(b: &[u8], most: usize, width: usize) -> Taken
+fn listed(b: &[u8], most: usize, width: usize) -> Option<usize>
     requires { width ≤ 4 }
     ensures { result ≡ listed b.now most width }
 {
-    let n = short(b) as usize;
+    let n = usize::from(short(b));
     if n <= most {
         within(b, 2 + width * n)
     } else {
-        Taken::Stopped
+        None
     }
 }
 
 // How many bytes a field takes at the front of b.
-fn field_taken(b: &[u8], field: Field) -> Taken
+fn field_taken(b: &[u8], field: Field) -> Option<usize>
     ensures { result ≡ field_taken b.now field }
 {
     match field {
-        Field::Nothing => Taken::Whole(0),
+        Field::Nothing => Some(0),
         Field::Byte => within(b, 1),
         Field::Flag => {
             if byte_at(b, 0) <= 1 {
                 within(b, 1)
             } else {
-                Taken::Stopped
+                None
             }
         }
         Field::Number => within(b, 2),
         Field::Length => listed(b, 1024, 0),
         Field::Samples(most) => listed(b, most, 2),
         Field::Floats(most) => listed(b, most, 4),
-        Field::Unknown => Taken::Stopped,
+        Field::Unknown => None,
     }
 }
 
-// Entry. How many bytes the call at the front of b takes.
-pub fn call_taken(b: &[u8]) -> Taken
+// Entry. How many bytes the call at the front of b takes: none where it is cut, unknown or too
+// long.
+pub fn call_taken(b: &[u8]) -> Option<usize>
     ensures { result ≡ call_taken b.now }
 {
-    let kind = byte_at(b, 0) as usize;
     let mut k = 1;
-    let mut i = 0;
-    while i < 6 {
-        let Taken::Whole(n) = field_taken(rest(b, k), layout::field_of(kind, i)) else {
-            return Taken::Stopped;
-        };
-        k += n;
-        i += 1;
+    for field in layout::fields_of(byte_at(b, 0)) {
+        k += field_taken(rest(b, k), *field)?;
     }
-    Taken::Whole(k)
+    Some(k)
 }

@@ -14,15 +14,12 @@ use Rattle.analysis.specs.declared.Channel as an-channel
 use Rattle.measurement.specs.Measurement as me
 use Rattle.synthesis.specs.Synthesis as sy
 use Rattle.synthesis.specs.declared.Channel as sy-channel
-use Rattle.loudest.specs.Loudest.{heard}
-use Rattle.loudest.specs.declared.Heard.{Heard}
+use Rattle.loudest.specs.Loudest.{Heard, heard}
 use Rattle.loudest.specs.declared.Loudest.{Loudest}
 use Rattle.loudest.specs.declared.Loudest.TheVariants.{Quiet, Loud}
-use Rattle.near_nyquist.specs.Sooner.{asked}
-use Rattle.near_nyquist.specs.declared.Asked.{Asked}
+use Rattle.near_nyquist.specs.Sooner.{Asked, asked}
 use Rattle.call_made.specs.declared.Answer.{Answer}
-use Rattle.call_made.specs.declared.Analysed.{Analysed}
-use Rattle.call_made.specs.declared.Played.{Played}
+use Rattle.call_made.specs.declared.Called.{Called}
 use Rattle.call_made.specs.declared.Bench.{Bench}
 
 -- ---- the parts of a call
@@ -63,7 +60,7 @@ whole room b x = x ++ drop (count b) room
 
 -- ---- the answers
 abbrev pub answer_of : ℕ → ℕ → Extra → List Float → ℕ → List Float → ℕ → List ℕ → ℕ → Answer
-answer_of number index e x m y n z o = record { number = number; index = index; extra = e; x = x; m = m; y = y; n = n; z = z; o = o }
+answer_of number index e x m y n z o = record { told = record { number = number; index = index }; extra = e; x = x; m = m; y = y; n = n; z = z; o = o }
 
 -- with one output area and peaks, with one, and with none
 abbrev pub with_peaks : ℕ → ℕ → Extra → List Float → ℕ → List ℕ → ℕ → Answer
@@ -75,27 +72,27 @@ one number index e x m = with_peaks number index e x m peaks 0
 abbrev pub plain : ℕ → Answer
 plain number = one number 0 Nothing area 0
 
-abbrev pub analysed : an-channel.Channel → Answer → Analysed
-analysed ch a = record { channel = ch; answer = a }
-
-abbrev pub played : sy-channel.Channel → Answer → Played
-played ch a = record { channel = ch; answer = a }
+abbrev pub called : {C : Type 0} → C → Answer → Called C
+called ch a = record { channel = ch; answer = a }
 
 -- ---- the calls, kind by kind
--- 1 and 3: "A refused clear leaves the old channel"
-unfoldable pub clear_analysis : an-channel.Channel → List ℕ → Analysed
-clear_analysis old b = let c = an.cleared (get_or b 1 0) in analysed (cond (eqb c.number 0) c.channel old) (plain c.number)
+-- 1 and 3: "A refused clear leaves the old channel": of the number and the channel that a clear gives
+abbrev pub after_clear : {C : Type 0} → C → ℕ → C → Called C
+after_clear old number fresh = called (cond (eqb number 0) fresh old) (plain number)
 
-unfoldable pub clear_synthesis : sy-channel.Channel → List ℕ → Played
-clear_synthesis old b = let c = sy.cleared (get_or b 1 0) in played (cond (eqb c.number 0) c.channel old) (plain c.number)
+unfoldable pub clear_analysis : an-channel.Channel → List ℕ → Called an-channel.Channel
+clear_analysis old b = let c = an.cleared (get_or b 1 0) in after_clear old c.number c.channel
+
+unfoldable pub clear_synthesis : sy-channel.Channel → List ℕ → Called sy-channel.Channel
+clear_synthesis old b = let c = sy.cleared (get_or b 1 0) in after_clear old c.number c.channel
 
 -- 11: "the frame to lines alone": on the samples x, with the length of the lines' area at the front of l
-unfoldable pub frame_on : an-channel.Channel → List ℤ → List ℕ → Analysed
+unfoldable pub frame_on : an-channel.Channel → List ℤ → List ℕ → Called an-channel.Channel
 frame_on ch x l =
     let f = an.frames ch (an.lent x (lent area l)) in
-    analysed f.1 (one f.0.number 0 Nothing (whole area l f.0.lines) (count l))
+    called f.1 (one f.0.number 0 Nothing (whole area l f.0.lines) (count l))
 
-abbrev pub frame : an-channel.Channel → List ℕ → Analysed
+abbrev pub frame : an-channel.Channel → List ℕ → Called an-channel.Channel
 frame ch b = frame_on ch (samples (drop 1 b)) (past_samples (drop 1 b))
 
 -- 12: "the measurement alone": at the configuration c, of the lines x, with the lengths of the energies' and the peaks' areas at the front of l
@@ -111,25 +108,25 @@ measure b = measure_on (get_or b 1 0) (floats (drop 2 b)) (past_floats (drop 2 b
 -- frame's answer a, whose lines are the places of its area: where the frame was refused no call, and the areas of energies and peaks untouched
 unfoldable pub measure_after : ℕ → Answer → List ℕ → Answer
 measure_after c a l =
-    cond (eqb a.number 0) (measure_on c (take a.m a.x) l)
-    (with_peaks a.number a.index (Flag false) area (count l) peaks (count (drop 2 l)))
+    cond (eqb a.told.number 0) (measure_on c (take a.m a.x) l)
+    (with_peaks a.told.number a.told.index (Flag false) area (count l) peaks (count (drop 2 l)))
 
 -- "NUMBER and INDEX are those of the first of the two calls that is refused, else 0; areas as the calls left them"
 abbrev pub both : Answer → Answer → Answer
-both a g = answer_of g.number g.index g.extra a.x a.m g.x g.m g.z g.o
+both a g = answer_of g.told.number g.told.index g.extra a.x a.m g.x g.m g.z g.o
 
-unfoldable pub analyse : an-channel.Channel → List ℕ → Analysed
+unfoldable pub analyse : an-channel.Channel → List ℕ → Called an-channel.Channel
 analyse ch b =
     let f = frame ch b in
-    analysed f.channel (both f.answer (measure_after ch.config f.answer (drop 2 (past_samples (drop 1 b)))))
+    called f.channel (both f.answer (measure_after ch.config f.answer (drop 2 (past_samples (drop 1 b)))))
 
 -- 4: on the lines x, with the length of the area at the front of l
-unfoldable pub play_on : sy-channel.Channel → List Float → List ℕ → Played
+unfoldable pub play_on : sy-channel.Channel → List Float → List ℕ → Called sy-channel.Channel
 play_on ch x l =
     let f = sy.frames ch (sy.lent x (lent area l)) in
-    played f.1 (one f.0.number f.0.index Nothing (whole area l f.0.samples) (count l))
+    called f.1 (one f.0.number f.0.index Nothing (whole area l f.0.samples) (count l))
 
-abbrev pub play : sy-channel.Channel → List ℕ → Played
+abbrev pub play : sy-channel.Channel → List ℕ → Called sy-channel.Channel
 play ch b = play_on ch (floats (drop 1 b)) (past_floats (drop 1 b))
 
 -- 5: of the real parts x and the imaginary parts y, with the lengths of the two areas at the front of l
@@ -173,15 +170,15 @@ ask b = ask_on (get_or b 1 0) (floats (drop 2 b))
 abbrev pub places : List ℕ → ℕ
 places b = min (short b) 300
 
-unfoldable pub set_analysis : List ℕ → Analysed
+unfoldable pub set_analysis : List ℕ → Called an-channel.Channel
 set_analysis b =
     let x = drop 2 b in
-    analysed (record { config = get_or b 1 0; samples = tab (places x) (sample_of x) ++ drop (places x) (replicate 300 (pos 0)) }) (plain 0)
+    called (record { config = get_or b 1 0; samples = tab (places x) (sample_of x) ++ drop (places x) (replicate 300 (pos 0)) }) (plain 0)
 
-unfoldable pub set_synthesis : List ℕ → Played
+unfoldable pub set_synthesis : List ℕ → Called sy-channel.Channel
 set_synthesis b =
     let x = drop 2 b in
-    played (record { config = get_or b 1 0; memory = tab (places x) (float_of x) ++ drop (places x) (replicate 300 (of_bits binary32 0)) }) (plain 0)
+    called (record { config = get_or b 1 0; memory = tab (places x) (float_of x) ++ drop (places x) (replicate 300 (of_bits binary32 0)) }) (plain 0)
 
 -- ---- a call of any kind
 abbrev pub bench_of : an-channel.Channel → sy-channel.Channel → Answer → Bench
@@ -191,10 +188,10 @@ bench_of a s answer = record { analysis = a; synthesis = s; answer = answer }
 unfoldable pub fresh : Bench
 fresh = bench_of (an.cleared 255).channel (sy.cleared 255).channel (plain 0)
 
-abbrev pub with_analysis : Bench → Analysed → Bench
+abbrev pub with_analysis : Bench → Called an-channel.Channel → Bench
 with_analysis s x = bench_of x.channel s.synthesis x.answer
 
-abbrev pub with_synthesis : Bench → Played → Bench
+abbrev pub with_synthesis : Bench → Called sy-channel.Channel → Bench
 with_synthesis s x = bench_of s.analysis x.channel x.answer
 
 abbrev pub with_answer : Bench → Answer → Bench

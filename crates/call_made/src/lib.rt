@@ -2,25 +2,24 @@
 
 #![tactic(auto)]
 
-ghost use Rattle.std.specs.Prelude.{◌≡◌, pos, length, get_or, drop, replicate};
-ghost use Rattle.std.specs.Float.Ieee.{of_bits};
-ghost use Rattle.std.specs.Float.{binary32};
+ghost use Rattle.std.specs.Prelude.{◌≡◌, length, get_or, drop};
 ghost use Rattle.laws.specs.Lists.{tab};
 ghost use Rattle.frame_file.specs.File.{short};
+ghost use Rattle.refusals.specs.Refusals.{told_by};
 ghost use Rattle.call_log.specs.Log.{Places, sample_of, float_of};
 ghost use Rattle.dct_iv.specs.DctIv as dc;
-ghost use Rattle.call_made.specs.Made.{floats, past_floats, past_samples, with_peaks, one, plain, analysed, played, clear_analysis, clear_synthesis, frame_on, frame, measure_on, measure, measure_after, both, analyse, play_on, play, fft_on, fft, dct, loudest_on, loudest, asked_as, ask_on, ask, set_analysis, set_synthesis, with_analysis, with_synthesis, with_answer, bench_of, fresh, on_none, on_synthesis, made};
+ghost use Rattle.near_nyquist.specs.Sooner as near;
+ghost use Rattle.call_made.specs.Made.{floats, past_floats, past_samples, with_peaks, one, plain, called, after_clear, clear_analysis, clear_synthesis, frame_on, frame, measure_on, measure, measure_after, both, analyse, play_on, play, fft_on, fft, dct, loudest_on, loudest, asked_as, ask_on, ask, set_analysis, set_synthesis, with_analysis, with_synthesis, with_answer, bench_of, fresh, on_none, on_synthesis, made};
 
 use call_text::Extra;
 use loudest::Loudest;
-use near_nyquist::Asked;
-use refusals::ACCEPTED;
+use near_nyquist::Sooner;
+use refusals::{Answered, Refusal, Verdict};
 
 // What a call answers: the numbers of its first line, and its output areas, m places of x, n of y and o of z, which are peaks or the number of bands read.
 #[derive(Clone, Copy)]
 pub struct Answer {
-    pub number: u8,
-    pub index: usize,
+    pub told: Verdict,
     pub extra: Extra,
     pub x: [f32; 1024],
     pub m: usize,
@@ -32,14 +31,8 @@ pub struct Answer {
 
 // A channel after a call, and the answer.
 #[derive(Clone, Copy)]
-pub struct Analysed {
-    pub channel: analysis::Channel,
-    pub answer: Answer,
-}
-
-#[derive(Clone, Copy)]
-pub struct Played {
-    pub channel: synthesis::Channel,
+pub struct Called<C> {
+    pub channel: C,
     pub answer: Answer,
 }
 
@@ -49,28 +42,6 @@ pub struct Bench {
     pub analysis: analysis::Channel,
     pub synthesis: synthesis::Channel,
     pub answer: Answer,
-}
-
-// Room for a frame of samples, and for what a channel keeps. That each has its length is said again, since lending a part needs it.
-fn samples_room() -> [i16; 1024]
-    ensures value { result ≡ replicate 1024 (pos 0) }
-    ensures places { 1024 ≡ length result }
-{
-    [0i16; 1024]
-}
-
-fn samples_300() -> [i16; 300]
-    ensures value { result ≡ replicate 300 (pos 0) }
-    ensures places { 300 ≡ length result }
-{
-    [0i16; 300]
-}
-
-fn floats_300() -> [f32; 300]
-    ensures value { result ≡ replicate 300 (of_bits binary32 0) }
-    ensures places { 300 ≡ length result }
-{
-    [0.0; 300]
 }
 
 // The values after a count, as many as out has places, and the bytes after all of them.
@@ -88,35 +59,48 @@ fn past_samples(b: &[u8]) -> &[u8]
     call_log::rest(b, 2 + 2 * call_log::count(b))
 }
 
+// What a call is told, whatever it gives beside.
+fn told<T: Copy>(answer: Result<T, Refusal>) -> Verdict
+    ensures { result ≡ told_by answer }
+{
+    Verdict::from(match answer {
+        Ok(_) => Ok(()),
+        Err(refusal) => Err(refusal),
+    })
+}
+
 // The answer of a call that has no output area.
 fn plain(number: u8) -> Answer
     ensures { result ≡ plain number }
 {
-    one_area(number, 0, Extra::Nothing, call_log::area(), 0)
+    one_area(
+        Verdict { number, index: 0 },
+        Extra::Nothing,
+        call_log::area(),
+        0,
+    )
 }
 
 // The answer of a call that has one, m places of x.
-fn one_area(number: u8, index: usize, extra: Extra, x: [f32; 1024], m: usize) -> Answer
-    ensures { result ≡ one number index extra x m }
+fn one_area(told: Verdict, extra: Extra, x: [f32; 1024], m: usize) -> Answer
+    ensures { result ≡ one told.number told.index extra x m }
 {
-    with_peaks(number, index, extra, x, m, call_log::peaks(), 0)
+    with_peaks(told, extra, x, m, call_log::peaks(), 0)
 }
 
 // The same with peaks, or bands read, o places of z.
 fn with_peaks(
-    number: u8,
-    index: usize,
+    told: Verdict,
     extra: Extra,
     x: [f32; 1024],
     m: usize,
     z: [usize; 1024],
     o: usize,
 ) -> Answer
-    ensures { result ≡ with_peaks number index extra x m z o }
+    ensures { result ≡ with_peaks told.number told.index extra x m z o }
 {
     Answer {
-        number,
-        index,
+        told,
         extra,
         x,
         m,
@@ -127,55 +111,56 @@ fn with_peaks(
     }
 }
 
-// An analysis channel, with an answer that has no output area.
-fn analysed_as(channel: analysis::Channel, number: u8) -> Analysed
-    ensures { result ≡ analysed channel (plain number) }
+// A channel, with an answer that has no output area.
+fn called_as<C: Copy>(channel: C, number: u8) -> Called<C>
+    ensures { result ≡ called channel (plain number) }
 {
-    let answer = plain(number);
-    Analysed { channel, answer }
+    Called {
+        channel,
+        answer: plain(number),
+    }
 }
 
-// The same of a synthesis channel.
-fn played_as(channel: synthesis::Channel, number: u8) -> Played
-    ensures { result ≡ played channel (plain number) }
+// A channel after a clear: the old one where it was refused.
+fn after_clear<C: Copy>(old: C, cleared: Answered<C>) -> Called<C>
+    ensures { result ≡ after_clear old (told_by cleared.told).number cleared.channel }
 {
-    let answer = plain(number);
-    Played { channel, answer }
+    let number = told(cleared.told).number;
+    let channel = if number == 0 { cleared.channel } else { old };
+    called_as(channel, number)
 }
 
 // 1: clear of the analysis channel.
-fn clear_analysis(old: analysis::Channel, b: &[u8]) -> Analysed
+fn clear_analysis(old: analysis::Channel, b: &[u8]) -> Called<analysis::Channel>
     ensures { result ≡ clear_analysis old b.now }
 {
-    let a = analysis::clear(call_log::byte_at(b, 1));
-    let channel = if a.number == ACCEPTED { a.channel } else { old };
-    analysed_as(channel, a.number)
+    after_clear(old, analysis::clear(call_log::byte_at(b, 1)))
 }
 
 // 11: frame to lines alone: the samples, the call. That the area has the places is said again, since lending them needs it.
-fn frame(channel: analysis::Channel, b: &[u8]) -> Analysed
+fn frame(channel: analysis::Channel, b: &[u8]) -> Called<analysis::Channel>
     ensures value { result ≡ frame channel b.now }
     ensures places { Places result.answer.m result.answer.x }
 {
     let input = call_log::rest(b, 1);
-    let mut room = samples_room();
-    let k = call_log::count_samples(input, &room);
+    let mut room = [0i16; 1024];
+    let k = call_log::count_places(input, &room);
     frame_on(channel, input, &mut room[..k])
 }
 
-fn frame_on(channel: analysis::Channel, b: &[u8], input: &mut [i16]) -> Analysed
+fn frame_on(channel: analysis::Channel, b: &[u8], input: &mut [i16]) -> Called<analysis::Channel>
     ensures value { result ≡ frame_on channel (tab (length input.old) (sample_of b.now)) (past_samples b.now) }
     ensures places { Places result.answer.m result.answer.x }
     ensures input_after { input.new ≡ tab (length input.old) (sample_of b.now) }
 {
     call_log::samples(b, input);
     let mut x = call_log::area();
-    let m = call_log::count_floats(past_samples(b), &x);
+    let m = call_log::count_places(past_samples(b), &x);
     let framed = channel.frame(input, &mut x[..m]);
-    let after = framed.channel;
-    Analysed {
-        channel: after,
-        answer: one_area(framed.number, 0, Extra::Nothing, x, m),
+    let number = told(framed.told).number;
+    Called {
+        channel: framed.channel,
+        answer: one_area(Verdict { number, index: 0 }, Extra::Nothing, x, m),
     }
 }
 
@@ -185,7 +170,7 @@ fn measure(b: &[u8]) -> Answer
 {
     let input = call_log::rest(b, 2);
     let mut room = call_log::area();
-    let k = call_log::count_floats(input, &room);
+    let k = call_log::count_places(input, &room);
     measure_read(call_log::byte_at(b, 1), input, &mut room[..k])
 }
 
@@ -202,31 +187,23 @@ fn measure_on(config: u8, lines: &[f32], lengths: &[u8]) -> Answer
 {
     let mut x = call_log::area();
     let mut z = call_log::peaks();
-    let m = call_log::count_floats(lengths, &x);
+    let m = call_log::count_places(lengths, &x);
     let o = call_log::count_places(call_log::rest(lengths, 2), &z);
     let measured = measurement::measure(config, lines, &mut x[..m], &mut z[..o]);
-    with_peaks(
-        measured.number,
-        measured.index,
-        Extra::Flag(measured.flag),
-        x,
-        m,
-        z,
-        o,
-    )
+    let flag = measured.unwrap_or(false);
+    with_peaks(told(measured), Extra::Flag(flag), x, m, z, o)
 }
 
 // 2: analysis frame: both in turn, the frame to lines and the measurement of them.
-fn analyse(channel: analysis::Channel, b: &[u8]) -> Analysed
+fn analyse(channel: analysis::Channel, b: &[u8]) -> Called<analysis::Channel>
     ensures { result ≡ analyse channel b.now }
 {
     let framed = frame(channel, b);
-    let next = framed.channel;
     let lines = framed.answer;
     let lengths = past_samples(call_log::rest(b, 1));
     let energies = measure_after(channel.config, lines, call_log::rest(lengths, 2));
-    Analysed {
-        channel: next,
+    Called {
+        channel: framed.channel,
         answer: both(lines, energies),
     }
 }
@@ -236,10 +213,9 @@ fn measure_after(config: u8, framed: Answer, lengths: &[u8]) -> Answer
     requires { Places framed.m framed.x }
     ensures { result ≡ measure_after config framed lengths.now }
 {
-    if framed.number != ACCEPTED {
+    if framed.told.number != 0 {
         return with_peaks(
-            framed.number,
-            framed.index,
+            framed.told,
             Extra::Flag(false),
             call_log::area(),
             call_log::count(lengths),
@@ -259,11 +235,9 @@ fn both(first: Answer, second: Answer) -> Answer
     let x = first.x;
     let y = second.x;
     let z = second.z;
-    let extra = second.extra;
     Answer {
-        number: second.number,
-        index: second.index,
-        extra,
+        told: second.told,
+        extra: second.extra,
         x,
         m: first.m,
         y,
@@ -274,36 +248,33 @@ fn both(first: Answer, second: Answer) -> Answer
 }
 
 // 3: clear of the synthesis channel.
-fn clear_synthesis(old: synthesis::Channel, b: &[u8]) -> Played
+fn clear_synthesis(old: synthesis::Channel, b: &[u8]) -> Called<synthesis::Channel>
     ensures { result ≡ clear_synthesis old b.now }
 {
-    let s = synthesis::clear(call_log::byte_at(b, 1));
-    let channel = if s.number == ACCEPTED { s.channel } else { old };
-    played_as(channel, s.number)
+    after_clear(old, synthesis::clear(call_log::byte_at(b, 1)))
 }
 
 // 4: synthesis frame: the lines, the call.
-fn play(channel: synthesis::Channel, b: &[u8]) -> Played
+fn play(channel: synthesis::Channel, b: &[u8]) -> Called<synthesis::Channel>
     ensures { result ≡ play channel b.now }
 {
     let input = call_log::rest(b, 1);
     let mut room = call_log::area();
-    let k = call_log::count_floats(input, &room);
+    let k = call_log::count_places(input, &room);
     play_on(channel, input, &mut room[..k])
 }
 
-fn play_on(channel: synthesis::Channel, b: &[u8], lines: &mut [f32]) -> Played
+fn play_on(channel: synthesis::Channel, b: &[u8], lines: &mut [f32]) -> Called<synthesis::Channel>
     ensures value { result ≡ play_on channel (tab (length lines.old) (float_of b.now)) (past_floats b.now) }
     ensures lines_after { lines.new ≡ tab (length lines.old) (float_of b.now) }
 {
     let length = read_floats(b, lines);
     let mut x = call_log::area();
-    let m = call_log::count_floats(length, &x);
+    let m = call_log::count_places(length, &x);
     let framed = channel.frame(lines, &mut x[..m]);
-    let next = framed.channel;
-    Played {
-        channel: next,
-        answer: one_area(framed.number, framed.index, Extra::Nothing, x, m),
+    Called {
+        channel: framed.channel,
+        answer: one_area(told(framed.told), Extra::Nothing, x, m),
     }
 }
 
@@ -313,7 +284,7 @@ fn fft(b: &[u8]) -> Answer
 {
     let parts = call_log::rest(b, 4);
     let mut re = call_log::area();
-    let k = call_log::count_floats(parts, &re);
+    let k = call_log::count_places(parts, &re);
     fft_real(b, parts, &mut re[..k])
 }
 
@@ -323,7 +294,7 @@ fn fft_real(b: &[u8], parts: &[u8], re: &mut [f32]) -> Answer
 {
     let imag = read_floats(parts, re);
     let mut im = call_log::area();
-    let k = call_log::count_floats(imag, &im);
+    let k = call_log::count_places(imag, &im);
     fft_imag(b, imag, re, &mut im[..k])
 }
 
@@ -334,14 +305,13 @@ fn fft_imag(b: &[u8], parts: &[u8], re: &[f32], im: &mut [f32]) -> Answer
     let lengths = read_floats(parts, im);
     let mut x = call_log::area();
     let mut y = call_log::area();
-    let m = call_log::count_floats(lengths, &x);
-    let n = call_log::count_floats(call_log::rest(lengths, 2), &y);
+    let m = call_log::count_places(lengths, &x);
+    let n = call_log::count_places(call_log::rest(lengths, 2), &y);
     let size = call_log::short(call_log::rest(b, 1)) as usize;
     let is_inverse = call_log::byte_at(b, 3) == 1;
-    let v = kissfft::fft(size, is_inverse, re, im, &mut x[..m], &mut y[..n]);
+    let transformed = kissfft::fft(size, is_inverse, re, im, &mut x[..m], &mut y[..n]);
     Answer {
-        number: v.number,
-        index: v.index,
+        told: told(transformed),
         extra: Extra::Nothing,
         x,
         m,
@@ -357,13 +327,13 @@ fn dct(b: &[u8]) -> Answer
     ensures { result ≡ dct b.now }
 {
     let mut x = call_log::area();
-    let m = call_log::count_floats(call_log::rest(b, 3), &x);
-    let v = dct_on(b, &mut x[..m]);
-    one_area(v.number, v.index, Extra::Nothing, x, m)
+    let m = call_log::count_places(call_log::rest(b, 3), &x);
+    let transformed = dct_on(b, &mut x[..m]);
+    one_area(told(transformed), Extra::Nothing, x, m)
 }
 
-fn dct_on(b: &[u8], values: &mut [f32]) -> refusals::Verdict
-    ensures { dc.outcome result values.new ≡ dc.answer (short (drop 1 b.now)) (tab (length values.old) (float_of (drop 3 b.now))) }
+fn dct_on(b: &[u8], values: &mut [f32]) -> Result<(), Refusal>
+    ensures { dc.outcome (told_by result) values.new ≡ dc.answer (short (drop 1 b.now)) (tab (length values.old) (float_of (drop 3 b.now))) }
 {
     call_log::floats(call_log::rest(b, 3), values);
     dct_iv::dct_iv(call_log::short(call_log::rest(b, 1)) as usize, values)
@@ -374,7 +344,7 @@ fn loudest(b: &[u8]) -> Answer
     ensures { result ≡ loudest b.now }
 {
     let mut room = call_log::area();
-    let k = call_log::count_floats(call_log::rest(b, 2), &room);
+    let k = call_log::count_places(call_log::rest(b, 2), &room);
     loudest_on(b, &mut room[..k])
 }
 
@@ -384,13 +354,13 @@ fn loudest_on(b: &[u8], energies: &mut [f32]) -> Answer
 {
     call_log::floats(call_log::rest(b, 2), energies);
     let heard = loudest::loudest_band(call_log::byte_at(b, 1), energies);
-    let found = heard.loudest;
+    let found = heard.unwrap_or(Loudest::Quiet);
     let mut x = call_log::area();
     let Loudest::Loud(band, product) = found else {
-        return one_area(heard.number, heard.index, Extra::Nothing, x, 0);
+        return one_area(told(heard), Extra::Nothing, x, 0);
     };
     x[0] = product;
-    one_area(heard.number, heard.index, Extra::Band(band), x, 1)
+    one_area(told(heard), Extra::Band(band), x, 1)
 }
 
 // 14: the flag, sooner: the energies, the call. The place is the number of bands read.
@@ -398,7 +368,7 @@ fn ask(b: &[u8]) -> Answer
     ensures { result ≡ ask b.now }
 {
     let mut room = call_log::area();
-    let k = call_log::count_floats(call_log::rest(b, 2), &room);
+    let k = call_log::count_places(call_log::rest(b, 2), &room);
     ask_on(b, &mut room[..k])
 }
 
@@ -410,15 +380,18 @@ fn ask_on(b: &[u8], energies: &mut [f32]) -> Answer
     asked_as(near_nyquist::near_nyquist(call_log::byte_at(b, 1), energies))
 }
 
-fn asked_as(a: Asked) -> Answer
-    ensures { result ≡ asked_as a }
+fn asked_as(asked: Result<Sooner, Refusal>) -> Answer
+    ensures { result ≡ asked_as (near.outcome asked) }
 {
+    let sooner = asked.unwrap_or(Sooner {
+        answer: false,
+        read: 0,
+    });
     let mut z = call_log::peaks();
-    z[0] = a.read;
+    z[0] = sooner.read;
     with_peaks(
-        a.number,
-        a.index,
-        Extra::Flag(a.answer),
+        told(asked),
+        Extra::Flag(sooner.answer),
         call_log::area(),
         0,
         z,
@@ -427,27 +400,27 @@ fn asked_as(a: Asked) -> Answer
 }
 
 // 9: set of the analysis channel.
-fn set_analysis(b: &[u8]) -> Analysed
+fn set_analysis(b: &[u8]) -> Called<analysis::Channel>
     ensures { result ≡ set_analysis b.now }
 {
     let input = call_log::rest(b, 2);
-    let mut samples = samples_300();
-    let k = call_log::count_samples(input, &samples);
+    let mut samples = [0i16; 300];
+    let k = call_log::count_places(input, &samples);
     call_log::samples(input, &mut samples[..k]);
     let config = call_log::byte_at(b, 1);
-    analysed_as(analysis::Channel { config, samples }, ACCEPTED)
+    called_as(analysis::Channel { config, samples }, 0)
 }
 
 // 10: set of the synthesis channel.
-fn set_synthesis(b: &[u8]) -> Played
+fn set_synthesis(b: &[u8]) -> Called<synthesis::Channel>
     ensures { result ≡ set_synthesis b.now }
 {
     let input = call_log::rest(b, 2);
-    let mut memory = floats_300();
-    let k = call_log::count_floats(input, &memory);
+    let mut memory = [0.0; 300];
+    let k = call_log::count_places(input, &memory);
     call_log::floats(input, &mut memory[..k]);
     let config = call_log::byte_at(b, 1);
-    played_as(synthesis::Channel { config, memory }, ACCEPTED)
+    called_as(synthesis::Channel { config, memory }, 0)
 }
 
 // The channels, with an answer.
@@ -467,19 +440,19 @@ pub fn fresh() -> Bench
 {
     let a = analysis::clear(255);
     let s = synthesis::clear(255);
-    bench_of(a.channel, s.channel, plain(ACCEPTED))
+    bench_of(a.channel, s.channel, plain(0))
 }
 
 impl Bench {
     // With an analysis channel and an answer.
-    fn analysed(self, made: Analysed) -> Bench
+    fn analysed(self, made: Called<analysis::Channel>) -> Bench
         ensures { result ≡ with_analysis self made }
     {
         bench_of(made.channel, self.synthesis, made.answer)
     }
 
     // With a synthesis channel and an answer.
-    fn played(self, made: Played) -> Bench
+    fn played(self, made: Called<synthesis::Channel>) -> Bench
         ensures { result ≡ with_synthesis self made }
     {
         bench_of(self.analysis, made.channel, made.answer)

@@ -1,18 +1,19 @@
 -- Pages: texts after texts are the texts together, a byte finds room or does not, and a loop over a list writes its places' texts. Assumes nothing.
-use mathlib.Core.Path.{◌≡◌, refl, sym, ap, ◌∙◌}
+use mathlib.Core.Path.{◌≡◌, refl, sym, ap, ◌∙◌, subst}
 use mathlib.Core.Bool.{Bool, cond}
-use mathlib.Core.List.{List, [], ◌∷◌, ◌++◌, append_assoc}
-use Prim.Native.Nat.{ℕ, ◌+◌, ◌≤◌, ◌<◌}
+use mathlib.Core.List.{List, [], ◌∷◌, ◌++◌, append_assoc, append-nil}
+use Prim.Native.Nat.{ℕ, zero, suc, ◌+◌, ◌≤◌, ◌<◌}
+use native.Mathlib.Nat.{not-suc-le-zero, le_of_suc-le-suc}
 use native.Mathlib.Numerals.{add-one}
-use native.Mathlib.Omega.{arith}
-use lib.ListN.{length, get_or, drop, set, drop_of_length-le}
-use lib.Seq.{drop-cons}
+use lib.ListN.{length, get_or, take, set}
+use lib.Seq.{take_all}
 use borrow.Author.Tests.{lt-ltb, le-ltb}
-use Rattle.plain_text.specs.Text.{newline}
 use Rattle.call_text.specs.Page.{Page, page, put, written}
+use Rattle.call_text.specs.Pages.{Writes}
+use Rattle.call_text.specs.declared.Page as declared
 use Rattle.call_text.specs.Lines.{each}
 
-pub written-append : (p : Page) (s t : List ℕ) → written p (s ++ t) ≡ written (written p s) t
+written-append : (p : Page) (s t : List ℕ) → written p (s ++ t) ≡ written (written p s) t
 unfolding written
 written-append p [] t = refl
 written-append p (b ∷ s) t = written-append (put p b) s t
@@ -26,65 +27,38 @@ pub full : (l : List ℕ) (at b : ℕ) → length l ≤ at → page l at ≡ wri
 unfolding page put written
 full l at b h = sym (ap (λ (t : Bool). cond t (page (set l at b) (at + 1)) (page l at)) (le-ltb at (length l) h))
 
-pub nothing : (p : Page) → p ≡ written p []
-unfolding written
-nothing p = refl
-
 -- ---- texts after each other
-module _ (p : Page) (a b : List ℕ) {q r : Page} (e : q ≡ written p a) (f : r ≡ written q b) where
-  pub two : r ≡ written p (a ++ b)
-  two = f ∙ ap (λ (u : Page). written u b) e ∙ sym (written-append p a b)
+pub nothing : (p : declared.Page) → Writes p p []
+unfolding written
+nothing p = record { same = refl; text = refl }
 
-pub three : (p : Page) (a b c : List ℕ) {q r s : Page} → q ≡ written p a → r ≡ written q b → s ≡ written r c → s ≡ written p (a ++ b ++ c)
-three p a b c e f g = two p (a ++ b) c (two p a b e f) g
+pub two : {p q r : declared.Page} (a b : List ℕ) → Writes p q a → Writes q r b → Writes p r (a ++ b)
+two {p} a b e f =
+    record {
+      same = f.same ∙ e.same;
+      text = f.text ∙ ap (λ (u : Page). written u b) e.text ∙ sym (written-append (page p.out.now p.at) a b);
+    }
+
+pub three : {p q r s : declared.Page} (a b c : List ℕ) → Writes p q a → Writes q r b → Writes r s c → Writes p s (a ++ b ++ c)
+three a b c e f g = two (a ++ b) c (two a b e f) g
 
 -- a line: what it begins with, and the rest of it
-pub line : (p : Page) (a b c : List ℕ) {q r : Page} → q ≡ written p a → r ≡ written q (b ++ c) → r ≡ written p (a ++ b ++ c)
-line p a b c e f = two p a (b ++ c) e f ∙ ap (written p) (sym (append_assoc a b c))
+pub line : {p q r : declared.Page} (a b c : List ℕ) → Writes p q a → Writes q r (b ++ c) → Writes p r (a ++ b ++ c)
+line {p} {r = r} a b c e f = subst (Writes p r) (sym (append_assoc a b c)) (two a (b ++ c) e f)
 
--- ---- a loop over x, at place i: what is left, written on the page at hand, makes the page that is to be
-pub record Going {A : Type 0} (f : A → List ℕ) (x : List A) (out₀ : List ℕ) (k₀ : ℕ) (out : List ℕ) (k i : ℕ) : Type 0 where
-  pub within : i ≤ length x
-  pub kept : length out ≡ length out₀
-  pub rest : written (page out k) (each f (drop i x)) ≡ written (page out₀ k₀) (each f x)
-
-each-cons : {A : Type 0} (f : A → List ℕ) (x : List A) (i : ℕ) (d : A) → i < length x → each f (drop i x) ≡ f (get_or x i d) ++ each f (drop (i + 1) x)
+-- ---- a loop over x
+each-more : {A : Type 0} (f : A → List ℕ) (x : List A) (i : ℕ) (d : A) → i < length x → each f (take (suc i) x) ≡ each f (take i x) ++ f (get_or x i d)
 unfolding each
-each-cons f x i d h = rw (add-one, drop-cons x i d)
+each-more f [] i d h = absurd (not-suc-le-zero h)
+each-more f (x ∷ xs) zero d h = append-nil (f x)
+each-more f (x ∷ xs) (suc i) d h = ap (λ (l : List ℕ). f x ++ l) (each-more f xs i d (le_of_suc-le-suc h)) ∙ sym (append_assoc (f x) (each f (take i xs)) (f (get_or xs i d)))
 
-module _ {A : Type 0} {f : A → List ℕ} {x : List A} where
-  pub begun : (out : List ℕ) (k : ℕ) → Going f x out k out k 0
-  begun out k = record { within = omega arith; kept = refl; rest = refl }
+module _ {A : Type 0} (f : A → List ℕ) (x : List A) {p q : declared.Page} (i : ℕ) (e : Writes p q (each f (take i x))) where
+  pub again : {r : declared.Page} (d : A) → i < length x → Writes q r (f (get_or x i d)) → Writes p r (each f (take (i + 1) x))
+  again {r} d h g = subst (λ (n : ℕ). Writes p r (each f (take n x))) (sym (add-one i)) (subst (Writes p r) (sym (each-more f x i d h)) (two _ _ e g))
 
-  pub again :
-      (d : A) {out₀ : List ℕ} {k₀ : ℕ} {out : List ℕ} {k i : ℕ} (next : List ℕ) (n : ℕ)
-      → Going f x out₀ k₀ out k i
-      → i < length x
-      → length next ≡ length out
-      → page next n ≡ written (page out k) (f (get_or x i d))
-      → Going f x out₀ k₀ next n (i + 1)
-  again d {out₀} {k₀} {out} {k} {i} next n g h l e =
-      record {
-        within = omega arith;
-        kept = l ∙ g.kept;
-        rest =
-            two (page out k) (f (get_or x i d)) (each f (drop (i + 1) x)) e refl
-            ∙ ap (written (page out k)) (sym (each-cons f x i d h))
-            ∙ g.rest;
-      }
-
-  pub done : {out₀ : List ℕ} {k₀ : ℕ} {out : List ℕ} {k i : ℕ} → Going f x out₀ k₀ out k i → length x ≤ i → page out k ≡ written (page out₀ k₀) (each f x)
-  unfolding each written
-  done {out = out} {k = k} g h = ap (λ (l : List A). written (page out k) (each f l)) (sym (drop_of_length-le x h)) ∙ g.rest
-
-  -- and the line's end after it
-  pub ended :
-      {out₀ : List ℕ} {k₀ : ℕ} {out : List ℕ} {k i : ℕ} {p : Page}
-      → Going f x out₀ k₀ out k i
-      → length x ≤ i
-      → p ≡ written (page out k) newline
-      → p ≡ written (page out₀ k₀) (each f x ++ newline)
-  ended {out₀} {k₀} g h e = two (page out₀ k₀) (each f x) newline (done g h) e
+  pub done : length x ≤ i → Writes p q (each f x)
+  done h = subst (λ (l : List A). Writes p q (each f l)) (take_all i x h) e
 
 -- bytes are their own texts
 abbrev pub byte : ℕ → List ℕ

@@ -1,2 +1,3 @@
 pub mod Page
+pub mod Pages
 pub mod Lines

@@ -4,10 +4,6 @@ use Rattle.std.specs.Float.{binary32, nan}
 use Rattle.std.specs.Float.Ieee.{of_bits, add, sub, mul, neg}
 use Rattle.complex.specs.declared.Complex.{Complex}
 use Rattle.complex.specs.Complex.{parts, plus, minus, scale}
-use Rattle.columns.specs.declared.Out2.{Out2}
-use Rattle.columns.specs.declared.Out3.{Out3}
-use Rattle.columns.specs.declared.Out4.{Out4}
-use Rattle.columns.specs.declared.Out5.{Out5}
 
 -- x + i y, and x - i y: x plus or minus y turned by a quarter
 abbrev pub plus_quarter : Complex → Complex → Complex
@@ -73,16 +69,3 @@ five ya yb c =
     let s11 = mix (c 0) s7 s8 yb.r ya.r in
     let s12 = far s10 s9 ya yb in
     col (plus (c 0) (plus s7 s8) ∷ minus s5 s6 ∷ plus s11 s12 ∷ minus s11 s12 ∷ plus s5 s6 ∷ [])
-
--- the first two, three, four, five of a column, as the structs of the code
-abbrev pub of2 : (ℕ → Complex) → Out2
-of2 c = record { a = c 0; b = c 1 }
-
-abbrev pub of3 : (ℕ → Complex) → Out3
-of3 c = record { a = c 0; b = c 1; c = c 2 }
-
-abbrev pub of4 : (ℕ → Complex) → Out4
-of4 c = record { a = c 0; b = c 1; c = c 2; d = c 3 }
-
-abbrev pub of5 : (ℕ → Complex) → Out5
-of5 c = record { a = c 0; b = c 1; c = c 2; d = c 3; e = c 4 }

@@ -3,40 +3,11 @@
 
 #![tactic(auto)]
 
-ghost use Rattle.std.specs.Prelude.{◌≡◌, [], ◌∷◌};
-ghost use Rattle.columns.specs.Column.{plus_quarter, minus_quarter, mix, near, far, two, three, four, five, col, of2, of3, of4, of5};
+ghost use Rattle.std.specs.Prelude.{◌≡◌};
+ghost use Rattle.laws.specs.Lists.{tab};
+ghost use Rattle.columns.specs.Column.{plus_quarter, minus_quarter, mix, near, far, two, three, four, five, col};
 
 use complex::Complex;
-
-#[derive(Clone, Copy)]
-pub struct Out2 {
-    pub a: Complex,
-    pub b: Complex,
-}
-
-#[derive(Clone, Copy)]
-pub struct Out3 {
-    pub a: Complex,
-    pub b: Complex,
-    pub c: Complex,
-}
-
-#[derive(Clone, Copy)]
-pub struct Out4 {
-    pub a: Complex,
-    pub b: Complex,
-    pub c: Complex,
-    pub d: Complex,
-}
-
-#[derive(Clone, Copy)]
-pub struct Out5 {
-    pub a: Complex,
-    pub b: Complex,
-    pub c: Complex,
-    pub d: Complex,
-    pub e: Complex,
-}
 
 // x + i y: x plus y turned by a quarter.
 fn plus_quarter(x: Complex, y: Complex) -> Complex
@@ -59,52 +30,38 @@ fn minus_quarter(x: Complex, y: Complex) -> Complex
 }
 
 // Entry. Radix 2 on a twiddled column.
-pub fn two(a: Complex, t: Complex) -> Out2
-    ensures { result ≡ of2 (two (col (a ∷ t ∷ []))) }
+pub fn two(column: [Complex; 2]) -> [Complex; 2]
+    ensures { result ≡ tab 2 (two (col column)) }
 {
-    Out2 {
-        a: a.add(t),
-        b: a.sub(t),
-    }
+    let [a, t] = column;
+    [a + t, a - t]
 }
 
 // Entry. Radix 3, where y is the twiddle of a third of a turn.
-pub fn three(a: Complex, s1: Complex, s2: Complex, y: Complex) -> Out3
-    ensures { result ≡ of3 (three y (col (a ∷ s1 ∷ s2 ∷ []))) }
+pub fn three(column: [Complex; 3], y: Complex) -> [Complex; 3]
+    ensures { result ≡ tab 3 (three y (col column)) }
 {
-    let s3 = s1.add(s2);
-    let x = a.sub(s3.scaled(0.5));
-    let d = s1.sub(s2);
+    let [a, s1, s2] = column;
+    let s3 = s1 + s2;
+    let x = a - s3.scaled(0.5);
+    let d = s1 - s2;
     let s0 = d.scaled(y.i);
-    Out3 {
-        a: a.add(s3),
-        b: plus_quarter(x, s0),
-        c: minus_quarter(x, s0),
-    }
+    [a + s3, plus_quarter(x, s0), minus_quarter(x, s0)]
 }
 
 // Entry. Radix 4.
-pub fn four(a: Complex, s0: Complex, s1: Complex, s2: Complex, inverse: bool) -> Out4
-    ensures { result ≡ of4 (four inverse (col (a ∷ s0 ∷ s1 ∷ s2 ∷ []))) }
+pub fn four(column: [Complex; 4], inverse: bool) -> [Complex; 4]
+    ensures { result ≡ tab 4 (four inverse (col column)) }
 {
-    let s5 = a.sub(s1);
-    let b = a.add(s1);
-    let s3 = s0.add(s2);
-    let s4 = s0.sub(s2);
+    let [a, s0, s1, s2] = column;
+    let s5 = a - s1;
+    let b = a + s1;
+    let s3 = s0 + s2;
+    let s4 = s0 - s2;
     if inverse {
-        return Out4 {
-            a: b.add(s3),
-            b: plus_quarter(s5, s4),
-            c: b.sub(s3),
-            d: minus_quarter(s5, s4),
-        };
+        return [b + s3, plus_quarter(s5, s4), b - s3, minus_quarter(s5, s4)];
     }
-    Out4 {
-        a: b.add(s3),
-        b: minus_quarter(s5, s4),
-        c: b.sub(s3),
-        d: plus_quarter(s5, s4),
-    }
+    [b + s3, minus_quarter(s5, s4), b - s3, plus_quarter(s5, s4)]
 }
 
 // s0 + s7 x + s8 w, from the left.
@@ -136,30 +93,17 @@ fn far(s10: Complex, s9: Complex, ya: Complex, yb: Complex) -> Complex
 }
 
 // Entry. Radix 5, where ya and yb are the twiddles of a fifth and of two fifths of a turn.
-pub fn five(
-    s0: Complex,
-    s1: Complex,
-    s2: Complex,
-    s3: Complex,
-    s4: Complex,
-    ya: Complex,
-    yb: Complex,
-) -> Out5
-    ensures { result ≡ of5 (five ya yb (col (s0 ∷ s1 ∷ s2 ∷ s3 ∷ s4 ∷ []))) }
+pub fn five(column: [Complex; 5], ya: Complex, yb: Complex) -> [Complex; 5]
+    ensures { result ≡ tab 5 (five ya yb (col column)) }
 {
-    let s7 = s1.add(s4);
-    let s10 = s1.sub(s4);
-    let s8 = s2.add(s3);
-    let s9 = s2.sub(s3);
+    let [s0, s1, s2, s3, s4] = column;
+    let s7 = s1 + s4;
+    let s10 = s1 - s4;
+    let s8 = s2 + s3;
+    let s9 = s2 - s3;
     let s5 = mix(s0, s7, s8, ya.r, yb.r);
     let s6 = near(s10, s9, ya, yb);
     let s11 = mix(s0, s7, s8, yb.r, ya.r);
     let s12 = far(s10, s9, ya, yb);
-    Out5 {
-        a: s0.add(s7.add(s8)),
-        b: s5.sub(s6),
-        c: s11.add(s12),
-        d: s11.sub(s12),
-        e: s5.add(s6),
-    }
+    [s0 + (s7 + s8), s5 - s6, s11 + s12, s11 - s12, s5 + s6]
 }

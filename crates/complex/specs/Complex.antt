@@ -1,5 +1,5 @@
 -- Complex numbers of two f32 parts (complex.rs): every operation rounded once, in the order written here. Definitions only.
-use Rattle.std.specs.Prelude.{cond, List, ℕ, eqb, get_or, Float}
+use Rattle.std.specs.Prelude.{cond, List, ℕ, ◌<◌, eqb, length, get_or, Float}
 use Rattle.std.specs.Float.{nan, binary32}
 use Rattle.std.specs.Float.Ieee.{add, sub, mul}
 use Rattle.complex.specs.declared.Complex.{Complex}
@@ -31,6 +31,10 @@ scale a s = record { r = mul binary32 a.r s; i = mul binary32 a.i s }
 -- place k of a list of real parts and a list of imaginary parts: total, a NaN past the end
 abbrev pub at : List Float → List Float → ℕ → Complex
 at re im k = record { r = get_or re k nan; i = get_or im k nan }
+
+-- place k is in both slices
+abbrev pub InBoth : ℕ → List Float → List Float → Type 0
+InBoth k re im = (k < length re) × (k < length im)
 
 -- f with c at place k
 unfoldable pub upd : (ℕ → Complex) → ℕ → Complex → ℕ → Complex

@@ -1,13 +1,14 @@
 // A complex number of two f32 parts, by value, and places of a pair of slices read and written as one number.
-// Ported from src/common/complex.rs of lc3-codec 0.2.0, and changed: methods by name in place of operators, each handing back a new
-// number; `get` and `put` are new.
+// Ported from src/common/complex.rs of lc3-codec 0.2.0, and changed: no operator that assigns, `scaled` in place of one; `get` and `put` are new.
 
 #![tactic(auto)]
 
-ghost use Rattle.std.specs.Prelude.{◌≡◌, ◌<◌, length};
-ghost use Rattle.complex.specs.Complex.{parts, plus, minus, times, scale, at, upd};
+ghost use Rattle.std.specs.Prelude.{◌≡◌};
+ghost use Rattle.complex.specs.Complex.{parts, plus, minus, times, scale, at, upd, InBoth};
 
-#[derive(Clone, Copy)]
+use std::ops::{Add, Mul, Sub};
+
+#[derive(Clone, Copy, Debug, PartialEq)]
 pub struct Complex {
     pub r: f32,
     pub i: f32,
@@ -21,36 +22,6 @@ impl Complex {
         Complex { r, i }
     }
 
-    // Entry. The sum, part by part.
-    pub fn add(self, b: Complex) -> Complex
-        ensures { result ≡ plus self b }
-    {
-        Complex {
-            r: self.r + b.r,
-            i: self.i + b.i,
-        }
-    }
-
-    // Entry. The difference, part by part.
-    pub fn sub(self, b: Complex) -> Complex
-        ensures { result ≡ minus self b }
-    {
-        Complex {
-            r: self.r - b.r,
-            i: self.i - b.i,
-        }
-    }
-
-    // Entry. The product: four products, a difference and a sum, each rounded once and never fused.
-    pub fn mul(self, b: Complex) -> Complex
-        ensures { result ≡ times self b }
-    {
-        Complex {
-            r: self.r * b.r - self.i * b.i,
-            i: self.r * b.i + self.i * b.r,
-        }
-    }
-
     // Entry. Both parts times a real.
     pub fn scaled(self, s: f32) -> Complex
         ensures { result ≡ scale self s }
@@ -62,9 +33,60 @@ impl Complex {
     }
 }
 
+// The sum, part by part.
+impl Add for Complex {
+    type Output = Complex;
+
+    ghost add_gives = { λ a b sum. sum ≡ plus a b };
+
+    // Entry.
+    fn add(self, b: Complex) -> Complex
+        ensures { result ≡ plus self b }
+    {
+        Complex {
+            r: self.r + b.r,
+            i: self.i + b.i,
+        }
+    }
+}
+
+// The difference, part by part.
+impl Sub for Complex {
+    type Output = Complex;
+
+    ghost sub_gives = { λ a b difference. difference ≡ minus a b };
+
+    // Entry.
+    fn sub(self, b: Complex) -> Complex
+        ensures { result ≡ minus self b }
+    {
+        Complex {
+            r: self.r - b.r,
+            i: self.i - b.i,
+        }
+    }
+}
+
+// The product: four products, a difference and a sum, each rounded once and never fused.
+impl Mul for Complex {
+    type Output = Complex;
+
+    ghost mul_gives = { λ a b product. product ≡ times a b };
+
+    // Entry.
+    fn mul(self, b: Complex) -> Complex
+        ensures { result ≡ times self b }
+    {
+        Complex {
+            r: self.r * b.r - self.i * b.i,
+            i: self.r * b.i + self.i * b.r,
+        }
+    }
+}
+
 // Inner. Place k of two slices of parts.
 pub fn get(re: &[f32], im: &[f32], k: usize) -> Complex
-    requires { (k < length re.now) × (k < length im.now) }
+    requires { InBoth k re.now im.now }
     ensures { result ≡ at re.now im.now k }
 {
     Complex { r: re[k], i: im[k] }
@@ -72,7 +94,7 @@ pub fn get(re: &[f32], im: &[f32], k: usize) -> Complex
 
 // Inner. Place k becomes c, and every other place stays.
 pub fn put(re: &mut [f32], im: &mut [f32], k: usize, c: Complex)
-    requires { (k < length re.old) × (k < length im.old) }
+    requires { InBoth k re.old im.old }
     ensures { at re.new im.new ≡ upd (at re.old im.old) k c }
 {
     re[k] = c.r;

@@ -3,16 +3,15 @@
 use mathlib.Core.Path.{◌≡◌, refl, sym, subst}
 use mathlib.Core.Bool.{Bool, true, false, ◌||◌}
 use mathlib.Core.List.{List, [], ◌∷◌}
-use Prim.Native.Nat.{ℕ, suc, ◌+◌, ◌<◌}
-use native.Mathlib.Numerals.{add-one}
+use Prim.Native.Nat.{ℕ, suc, ◌<◌}
 use native.Mathlib.Decide.{ℕ_discrete}
 use native.Mathlib.Omega.{arith}
-use lib.Dec.{T, eqb, leb, ltb, eqb→eq, ltb→lt}
-use lib.ListN.{length, get_or, drop}
-use lib.Seq.{drop-cons}
-use borrow.Author.Tests.{eq-eqb, ne_eqb, lt-leb}
+use lib.Dec.{T, eqb}
+use lib.ListN.{length, get_or}
+use borrow.Author.Tests.{ne_eqb}
 use Rattle.laws.proofs.Table.{every, at}
 use Rattle.laws.proofs.Arms.{Outside, outside_besides}
+use Rattle.std.specs.List.{list_any}
 use Rattle.config.specs.Config.{among}
 
 among_all : (P : ℕ → Type 0) (ns : List ℕ) → ((k : ℕ) → k < length ns → P (get_or ns k 0)) → (n : ℕ) → T (among ns n) → P n
@@ -43,23 +42,12 @@ pub same_among : (ms ns : List ℕ) → T (every (λ k n. among ns n) 0 ms) → 
 same_among ms ns t u n = same (among ms n) (among ns n) (at-among (among ns) ms t n) (at-among (among ms) ns u n)
 
 -- what the last arm knows of a number that is one of a list's: it passes a test that every number of the list passes but those of the arms before it
-past_among : (f : ℕ → Bool) (ns ms : List ℕ) → T (every (λ k n. among ms n || f n) 0 ns) → (n : ℕ) → T (among ns n) → Outside ms n Unit → T (f n)
+pub past_among : (f : ℕ → Bool) (ns ms : List ℕ) → T (every (λ k n. among ms n || f n) 0 ns) → (n : ℕ) → T (among ns n) → Outside ms n Unit → T (f n)
 past_among f ns ms t n a o =
     let u : T (among ms n || f n) = at-among (λ n. among ms n || f n) ns t n a in
     rw (outside_among ms n Unit o) at u
 
--- as where the arms before it are those of the small numbers, up to b; and where they are those of the large ones but the last
-pub past_small : (ns ms : List ℕ) (b : ℕ) → T (every (λ k n. among ms n || ltb b n) 0 ns) → (n : ℕ) → T (among ns n) → Outside ms n Unit → b < n
-past_small ns ms b t n a o = ltb→lt b n (past_among (ltb b) ns ms t n a o)
-
-pub past_large : (ns ms : List ℕ) (b last : ℕ) → T (every (λ k n. among ms n || (leb n b || eqb last n)) 0 ns) → (n : ℕ) → T (among ns n) → b < n → Outside ms n Unit → n ≡ last
-past_large ns ms b last t n a l o =
-    let u : T (leb n b || eqb last n) = past_among (λ n. leb n b || eqb last n) ns ms t n a o in
-    sym (eqb→eq last n (rw (lt-leb n b l) at u))
-
--- a search that has come to place k finds the number there, or goes on
-pub among_here : (l : List ℕ) (k n : ℕ) → k < length l → get_or l k 0 ≡ n → among (drop k l) n ≡ true
-among_here l k n h e = rw (drop-cons l k 0 h, eq-eqb (get_or l k 0) n e)
-
-pub among_next : (l : List ℕ) (k n : ℕ) → k < length l → (get_or l k 0 ≡ n → ⊥) → among (drop k l) n ≡ among (drop (k + 1) l) n
-among_next l k n h d = rw (add-one k, drop-cons l k 0 h, ne_eqb (get_or l k 0) n d)
+-- std's search of a list
+pub any_among : (ns : List ℕ) (n : ℕ) → list_any (λ m. eqb m n) ns ≡ among ns n
+any_among [] n = refl
+any_among (m ∷ ms) n = rw (any_among ms n)

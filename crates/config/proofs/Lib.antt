@@ -1,3 +1,3 @@
 pub mod Sound
 pub mod Among
-pub mod Small
+pub mod Longest

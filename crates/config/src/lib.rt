@@ -81,6 +81,7 @@ pub fn upper(c: u8) -> usize
 }
 
 // Entry. The FFT's size.
+#[tactic(auto, unfolding(crate::specs::Config::half))]
 pub fn half(c: u8) -> usize
     ensures { result ≡ half c }
 {
@@ -88,30 +89,18 @@ pub fn half(c: u8) -> usize
     row.nf / 2
 }
 
-// Whether n is one of the list's numbers.
-fn has(list: &[usize], n: usize) -> bool
-    ensures { result ≡ among list.now n }
-{
-    let mut k = 0usize;
-    while k < list.len() {
-        if list[k] == n {
-            return true;
-        }
-        k += 1usize;
-    }
-    false
-}
-
 // Entry. Whether n is the FFT's size at a configuration.
+#[tactic(auto, using(crate::proofs::Among::any_among), unfolding(crate::specs::Config::fft_sizes, crate::specs::Config::half, crate::specs::Config::row, crate::specs::Tables::rows))]
 pub fn is_fft_size(n: usize) -> bool
     ensures { result ≡ among fft_sizes n }
 {
-    has(&tables::FFT_SIZES, n)
+    tables::FFT_SIZES.contains(&n)
 }
 
 // Entry. Whether n is the DCT's length at a configuration.
+#[tactic(auto, using(crate::proofs::Among::any_among), unfolding(crate::specs::Config::dct_lengths, crate::specs::Config::row, crate::specs::Tables::rows))]
 pub fn is_dct_length(n: usize) -> bool
     ensures { result ≡ among dct_lengths n }
 {
-    has(&tables::DCT_LENGTHS, n)
+    tables::DCT_LENGTHS.contains(&n)
 }

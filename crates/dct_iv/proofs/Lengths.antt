@@ -1,60 +1,19 @@
--- The lengths of the DCT by computed tests over the configurations, and its refusals: each return of `judge` is the definition's verdict.
--- Assumes nothing.
-use mathlib.Core.Path.{◌≡◌, sym, ap, subst, ◌∙◌}
-use mathlib.Core.Bool.{Bool, true, false, ◌&&◌, ◌||◌}
-use mathlib.Core.List.{List, [], ◌∷◌}
-use Prim.Native.Nat.{ℕ, ◌*◌, ◌/◌, ◌<◌}
+-- The refusals of the DCT: each return of `judge` is the definition's verdict, and what acceptance says of the buffer. Assumes nothing.
+use mathlib.Core.Path.{◌≡◌, sym, ap, ◌∙◌}
+use mathlib.Core.Bool.{true, false}
+use mathlib.Core.List.{List}
+use Prim.Native.Nat.{ℕ}
 use native.Mathlib.Omega.{arith}
-use lib.Dec.{T, eqb, leb, ltb, eqb→eq}
+use lib.Dec.{T, eqb, eqb→eq}
 use lib.Ieee.{Float}
-use lib.Ieee.Fits.{and_l}
 use lib.ListN.{length}
 use borrow.Author.Tests.{eq-eqb, ne_eqb}
-use Rattle.laws.proofs.Table.{every}
-use Rattle.laws.proofs.Arms.{Outside}
-use Rattle.config.specs.Tables.{rows}
-use Rattle.config.specs.Config.{row, half, among, fft_sizes, dct_lengths}
-use Rattle.config.proofs.Among.{at-among, past_small, past_large}
+use Rattle.config.specs.Config.{among, dct_lengths}
 use Rattle.refusals.specs.declared.Verdict.{Verdict}
 use Rattle.refusals.specs.Refusals.{on_values}
 use Rattle.refusals.proofs.Verdicts.{passed, by_values}
 use Rattle.dct_steps.specs.Dct.{dct_iv}
 use Rattle.dct_iv.specs.DctIv.{number, verdict, outcome, answer}
-
-abbrev fits : ℕ → Bool
-fits n = among fft_sizes (n / 2) && eqb n (2 * (n / 2))
-
-test : T (every (λ k n. fits n) 0 dct_lengths)
-unfolding fft_sizes dct_lengths half row rows
-test = tt
-
--- half a length is an FFT size, which the arm of its length says
-pub at_arm : (n c : ℕ) → T (among dct_lengths n) → n ≡ 2 * c → T (among fft_sizes c) × (n ≡ 2 * c)
-at_arm n c s e =
-    let t : T (fits n) = at-among fits dct_lengths test n s in
-    let h : n / 2 ≡ c = omega arith in
-    (subst (λ (m : ℕ). T (among fft_sizes m)) h (and_l (among fft_sizes (n / 2)) _ t), e)
-
--- the last arms of the matches on the lengths: past the small ones, and past the large ones but the longest
-abbrev small : List ℕ
-small = 20 ∷ 40 ∷ 60 ∷ 80 ∷ []
-
-abbrev large : List ℕ
-large = 120 ∷ 160 ∷ 180 ∷ 240 ∷ 320 ∷ 360 ∷ []
-
-small-first : T (every (λ k n. among small n || ltb 80 n) 0 dct_lengths)
-unfolding dct_lengths row rows
-small-first = tt
-
-large_first : T (every (λ k n. among large n || (leb n 80 || eqb 480 n)) 0 dct_lengths)
-unfolding dct_lengths row rows
-large_first = tt
-
-pub is_large : (n : ℕ) → T (among dct_lengths n) → Outside small n Unit → 80 < n
-is_large = past_small dct_lengths small 80 small-first
-
-pub is_longest : (n : ℕ) → T (among dct_lengths n) → 80 < n → Outside large n Unit → n ≡ 480
-is_longest = past_large dct_lengths large 80 480 large_first
 
 module _ (n : ℕ) (buf : List Float) where
   abbrev says : ℕ → ℕ → Type 0

@@ -1,14 +1,14 @@
 -- A packed table has what a transform reads: one law over the plan, and what is true of the sizes alone by a computed test. And the halves of a table.
 -- Assumes nothing.
-use mathlib.Core.Path.{◌≡◌, refl, sym, ap, ap₂, ◌∙◌}
+use mathlib.Core.Path.{◌≡◌, sym, ap, ◌∙◌}
 use mathlib.Core.Bool.{Bool, true, false, ◌&&◌}
-use mathlib.Core.List.{List, [], ◌∷◌, ◌++◌, map}
+use mathlib.Core.List.{List, [], ◌∷◌, ◌++◌}
 use Prim.Native.Nat.{ℕ, suc, ◌+◌, ◌*◌, ◌-◌, ◌/◌, ◌%◌, ◌<◌, ◌≤◌}
 use native.Mathlib.Nat.{mul-le-mul_left, mul-le-mul_right, mul-suc, mul_assoc, mul_comm, one-mul, mul-div_cancel_left}
 use native.Mathlib.Omega.{arith}
 use lib.Dec.{T, eqb, eqb→eq}
 use lib.ListN.{length, get_or, take, drop, length-append, get_or-append}
-use lib.Seq.{get_or-append-add, get_or_at, take-append_seam, drop-append_seam}
+use lib.Seq.{get_or-append-add, get_or_at}
 use lib.Ieee.{Float, nan, neg, binary32, of_bits}
 use lib.Ieee.Fits.{and_l, and_r}
 use Rattle.laws.specs.Lists.{tab}
@@ -28,8 +28,8 @@ use Rattle.kf_work.proofs.Plan.{Split, split, span_positive, plan-cons, whole, i
 use Rattle.kf_work.proofs.Sizes as plans
 use Rattle.twiddles.specs.Tables.{sizes, fft_re_bits}
 use Rattle.twiddles.specs.Twiddles.{start, fft_re, fft_im, fft_im_of, twiddle}
-use Rattle.twiddles.proofs.Sizes.{same_sizes, sized, Halved, halved}
-use Rattle.fft_tables.specs.FftTables.{order, read, packed_re, packed_im, packed_im_of, packed_table, packed_table_of, AllPacked}
+use Rattle.twiddles.proofs.Sizes.{same_sizes, sized, Halved, halved, lent_at}
+use Rattle.fft_tables.specs.FftTables.{order, read, packed_re, packed_im, packed_im_of, packed_table, packed_lent, plan_lent, AllPacked}
 
 -- a plan with a stage is of 2 or more
 span-two : (p : ℕ) (ps : List ℕ) → T (planned (p ∷ ps)) → 2 ≤ span (p ∷ ps)
@@ -160,11 +160,11 @@ module _ (n : ℕ) (s : T (among fft_sizes n)) where
   pub some_size : 0 < n
   some_size = let plan_is = plans.sized n s in omega (arith, span_positive (plan n) plan_is.plan_radixes, plan_is.whole)
 
-  re-length : length (packed_re n) ≡ n - 1
+  pub re-length : length (packed_re n) ≡ n - 1
   unfolding packed_re
   re-length = length-map (λ k. get_or (fft_re n) k nan) (read n) ∙ read_length
 
-  im-length : length (packed_im n) ≡ n - 1
+  pub im-length : length (packed_im n) ≡ n - 1
   unfolding packed_im
   im-length = length-map (λ k. get_or (fft_im n) k nan) (read n) ∙ read_length
 
@@ -173,21 +173,14 @@ module _ (n : ℕ) (s : T (among fft_sizes n)) where
   im_of_length false = im-length
   im_of_length true = length-map neg (packed_im n) ∙ im-length
 
-  pub packed_halves : (inverse : Bool) (t : List Float) → t ≡ packed_table_of inverse n → Halved (n - 1) (packed_re n) (packed_im_of inverse n) t
-  unfolding packed_table_of
-  packed_halves inverse t e = halved (n - 1) (packed_re n) (packed_im_of inverse n) t e re-length (im_of_length inverse)
+-- the tables and the plan that are lent at a size
+pub fft_halves : (n : ℕ) → T (among fft_sizes n) → (t : List Float) → t ≡ packed_lent n → Halved (n - 1) (packed_re n) (packed_im n) t
+unfolding packed_lent packed_table
+fft_halves n s t e = halved (n - 1) (packed_re n) (packed_im n) t (e ∙ lent_at n (packed_table n) s) (re-length n s) (im-length n s)
 
-  -- the forward table with its imaginary parts negated is the inverse's
-  pub packed_inverted : (t : List Float) → t ≡ packed_table n → take (n - 1) t ++ map neg (drop (n - 1) t) ≡ packed_table_of true n
-  unfolding packed_table packed_table_of packed_im_of
-  packed_inverted t e =
-      ap₂ (λ (a b : List Float). a ++ map neg b)
-      (ap₂ take (sym re-length) e ∙ take-append_seam (packed_re n) (packed_im n))
-      (ap₂ drop (sym re-length) e ∙ drop-append_seam (packed_re n) (packed_im n))
-
-pub packed_forward : (n : ℕ) → packed_table n ≡ packed_table_of false n
-unfolding packed_table packed_table_of packed_im_of
-packed_forward n = refl
+pub plan_at : (n : ℕ) → T (among fft_sizes n) → plan_lent n ≡ plan n
+unfolding plan_lent
+plan_at n s = lent_at n (plan n) s
 
 pub all_packed : AllPacked
 all_packed = packs

@@ -1,5 +1,5 @@
 -- What a transform of size n reads of its twiddles, packed: those of a stage stand one beside the other. Definitions only.
-use Rattle.std.specs.Prelude.{Bool, true, false, List, [], ◌∷◌, ◌++◌, map, ℕ, suc, ◌*◌, ◌-◌, ◌/◌, ◌%◌, T, get_or, Float}
+use Rattle.std.specs.Prelude.{Bool, true, false, cond, List, [], ◌∷◌, ◌++◌, map, ℕ, suc, ◌*◌, ◌-◌, ◌/◌, ◌%◌, T, get_or, Float}
 use Rattle.std.specs.Float.{nan}
 use Rattle.std.specs.Float.Ieee.{neg}
 use Rattle.laws.specs.Lists.{tab}
@@ -31,6 +31,13 @@ packed_im n = map (λ k. get_or (fft_im n) k nan) (read n)
 -- the table of size n as the code has it: the real parts, then the imaginary parts
 unfoldable pub packed_table : ℕ → List Float
 packed_table n = packed_re n ++ packed_im n
+
+-- what the code lends: the table and the plan of a size that a configuration has, and nothing at any other number
+unfoldable pub packed_lent : ℕ → List Float
+packed_lent n = cond (among fft_sizes n) (packed_table n) []
+
+unfoldable pub plan_lent : ℕ → List ℕ
+plan_lent n = cond (among fft_sizes n) (plan n) []
 
 -- "The inverse table negates each imaginary part."
 unfoldable pub packed_im_of : Bool → ℕ → List Float

@@ -13,11 +13,11 @@ use borrow.Rule.Slice.PartMut.{mid_of, put_mid}
 use Rattle.complex.specs.declared.Complex.{Complex}
 use Rattle.complex.specs.Complex.{parts, at, upd}
 use Rattle.laws.specs.Lists.{tab}
-use Rattle.columns.specs.declared.Out5.{Out5}
-use Rattle.columns.specs.Column.{col, of5}
+use Rattle.columns.specs.Column.{col}
 use Rattle.quads.specs.Beside.{twist_by, one32, beside5}
 use Rattle.quads.specs.Rows.{writes}
-use Rattle.quads.proofs.Read.{Sees, sees5, seen, twist_same}
+use Rattle.quads.specs.Radix.{Sees, sees5}
+use Rattle.quads.proofs.Read.{seen, twist_same}
 use Rattle.butterflies.specs.Butterflies.{stage}
 use Rattle.kf_work.specs.Work.{within, span}
 use Rattle.kf_work.specs.Packed.{after, packed_column, packed_work, innermost}
@@ -36,18 +36,18 @@ writes-within g v (suc n) =
     let place : 0 + n ≡ n = omega arith in
     ap₂ (λ (f : ℕ → Complex) (k : ℕ). upd f k (v n)) (writes-within g v n) place ∙ within_more n v g ∙ ap (λ (k : ℕ). within k v g) (add-one n)
 
-leaf_done : (u x : ℕ → Complex) (s o : ℕ) (g g' : ℕ → Complex) (c : Out5) → c ≡ of5 (λ q. x (o + q * s))
-    → g' ≡ writes g 0 (beside5 u (col (c.a ∷ c.b ∷ c.c ∷ c.d ∷ c.e ∷ []))) 5 → g' ≡ within 5 (innermost u x s o) g
-unfolding innermost tab
+leaf_done : (u x : ℕ → Complex) (s o : ℕ) (g g' : ℕ → Complex) (c : List Complex) → c ≡ tab 5 (λ q. x (o + q * s))
+    → g' ≡ writes g 0 (beside5 u (col c)) 5 → g' ≡ within 5 (innermost u x s o) g
+unfolding innermost
 leaf_done u x s o g g' c read stored =
     stored
-    ∙ ap (λ (v : ℕ → Complex). writes g 0 v 5) (seen 5 (λ q. x (o + q * s)) (beside5 u) (sees_five u) _ (λ z. (read z).a ∷ (read z).b ∷ (read z).c ∷ (read z).d ∷ (read z).e ∷ []))
+    ∙ ap (λ (v : ℕ → Complex). writes g 0 v 5) (seen 5 (λ q. x (o + q * s)) (beside5 u) (sees_five u) _ read)
     ∙ writes-within g (innermost u x s o) 5
 
 -- one more of the innermost stages below a stage of stride t: the q-th, on the parts from place 5 q on
-pub leaf_more : (u x : ℕ → Complex) (s t o q : ℕ) (g₀ : ℕ → Complex) (re im ys zs : List Float) (c : Out5) → q * 5 ≤ length re → q * 5 ≤ length im
-    → at re im ≡ within (q * 5) (blocks (innermost u x s) 5 t o) g₀ → c ≡ of5 (λ j. x (o + q * t + j * s))
-    → at ys zs ≡ writes (at (mid_of (q * 5) (length re - q * 5) re) (mid_of (q * 5) (length im - q * 5) im)) 0 (beside5 u (col (c.a ∷ c.b ∷ c.c ∷ c.d ∷ c.e ∷ []))) 5
+pub leaf_more : (u x : ℕ → Complex) (s t o q : ℕ) (g₀ : ℕ → Complex) (re im ys zs : List Float) (c : List Complex) → q * 5 ≤ length re → q * 5 ≤ length im
+    → at re im ≡ within (q * 5) (blocks (innermost u x s) 5 t o) g₀ → c ≡ tab 5 (λ j. x (o + q * t + j * s))
+    → at ys zs ≡ writes (at (mid_of (q * 5) (length re - q * 5) re) (mid_of (q * 5) (length im - q * 5) im)) 0 (beside5 u (col c)) 5
     → at (put_mid (q * 5) (length re - q * 5) re ys) (put_mid (q * 5) (length im - q * 5) im zs) ≡ within ((q + 1) * 5) (blocks (innermost u x s) 5 t o) g₀
 leaf_more u x s t o q g₀ re im ys zs c hr hi before read stored =
     call_done (innermost u x s) 5 t o q (omega arith) g₀ re im ys zs hr hi before (leaf_done u x s (o + q * t) _ _ c read stored)

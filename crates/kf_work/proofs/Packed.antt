@@ -9,8 +9,8 @@ use lib.Dec.{T, leb, ltb, leb→le, eqb→eq}
 use Rattle.complex.specs.declared.Complex.{Complex}
 use Rattle.complex.specs.Complex.{parts, times}
 use Rattle.columns.specs.Column.{three, five}
-use Rattle.quads.specs.Beside.{twist_by, beside, one32, beside2, beside3, beside4, beside5}
-use Rattle.quads.proofs.Read.{sees2, sees3, sees4, sees5}
+use Rattle.quads.specs.Beside.{twist_by, beside, one32, beside5}
+use Rattle.quads.specs.Radix.{sees2, sees3, sees4, sees5}
 use Rattle.butterflies.specs.Butterflies.{stage, twist, column2, column3, column4, column5}
 use Rattle.kf_work.specs.Work.{planned, column, work}
 use Rattle.kf_work.specs.Packed.{after, packed_column, fives, packed_work, Packed}
@@ -31,7 +31,7 @@ module _ (t u : ℕ → Complex) (inverse : Bool) (s m j : ℕ) (c : ℕ → Com
   Alike p = ((q : ℕ) → suc q < p → beside u m j q ≡ t (suc q * (j * s))) → (p ≡ 3 → u (3 * m - 2) ≡ t (s * m)) → packed_column u inverse p m j c ≡ column t inverse s p m j c
 
   column_alike : (p : ℕ) → 2 ≤ p → p ≤ 4 → Alike p
-  unfolding packed_column column beside2 beside3 beside4 column2 column3 column4
+  unfolding packed_column column column2 column3 column4
   column_alike =
       by_radix Alike (λ e e3. sees2 _ _ (twist_alike (beside u m j) t (j * s) 2 c e))
       (λ e e3. ap (λ (y : Complex). three y (twist_by (beside u m j) c)) (e3 refl) ∙ sees3 (t (s * m)) _ _ (twist_alike (beside u m j) t (j * s) 3 c e))

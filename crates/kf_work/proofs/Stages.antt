@@ -2,7 +2,7 @@
 use mathlib.Core.Path.{◌≡◌, ap, ap₂, ◌∙◌, sym, fun_ext}
 use mathlib.Core.Bool.{Bool}
 use mathlib.Core.List.{List}
-use Prim.Native.Nat.{ℕ, ◌+◌, ◌*◌, ◌/◌, ◌%◌, ◌<◌, ◌≤◌}
+use Prim.Native.Nat.{ℕ, ◌+◌, ◌-◌, ◌*◌, ◌/◌, ◌%◌, ◌<◌, ◌≤◌}
 use native.Mathlib.Nat.{mul-le-mul_left, mul_comm, mul-suc, mod-lt}
 use native.Mathlib.Decide.{dec_lt}
 use native.Mathlib.Omega.{arith}
@@ -10,7 +10,9 @@ use borrow.Author.Tests.{lt-ltb, le-ltb}
 use Rattle.complex.specs.declared.Complex.{Complex}
 use Rattle.butterflies.specs.Butterflies.{stage}
 use Rattle.butterflies.proofs.Columns.{Local}
-use Rattle.butterflies.proofs.Local.{local2, local3, local4}
+use Rattle.columns.specs.Column.{two, three, four}
+use Rattle.quads.specs.Radix.{sees2, sees3, sees4}
+use Rattle.butterflies.proofs.Local.{local_by}
 use Rattle.kf_work.specs.Work.{within, span}
 use Rattle.kf_work.specs.Packed.{after, packed_column, packed_work}
 use Rattle.kf_work.proofs.Spread.{within-lt, within_ge}
@@ -22,7 +24,7 @@ blocks w m s o k = w (o + k / m * s) (k % m)
 
 column_local : (u : ℕ → Complex) (inverse : Bool) (p m : ℕ) → 2 ≤ p → p ≤ 4 → Local p m (packed_column u inverse p m)
 unfolding packed_column
-column_local u inverse p m = by_radix (λ p. Local p m (packed_column u inverse p m)) (local2 u m) (local3 u m _) (local4 u m inverse) p
+column_local u inverse p m = by_radix (λ p. Local p m (packed_column u inverse p m)) (local_by 2 m two sees2 u) (local_by 3 m (three (u (3 * m - 2))) (sees3 (u (3 * m - 2))) u) (local_by 4 m (four inverse) (sees4 inverse) u) p
 
 -- a stage looks at its block alone
 stage_local : (p m : ℕ) (b : ℕ → (ℕ → Complex) → ℕ → Complex) → Local p m b → 0 < m → (f g : ℕ → Complex) → ((k : ℕ) → k < p * m → f k ≡ g k)

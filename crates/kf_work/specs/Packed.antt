@@ -2,9 +2,10 @@
 use Rattle.std.specs.Prelude.{◌≡◌, Bool, false, cond, ◌&&◌, List, [], ◌∷◌, ℕ, suc, ◌+◌, ◌*◌, ◌-◌, ◌/◌, ◌%◌, ◌<◌, leb, eqb, length, get_or, Float}
 use Rattle.complex.specs.declared.Complex.{Complex}
 use Rattle.complex.specs.Complex.{parts, at}
+use Rattle.columns.specs.Column.{two, three, four}
 use Rattle.butterflies.specs.Butterflies.{stage}
 use Rattle.kf_work.specs.Work.{plan, span, within, BothParts}
-use Rattle.quads.specs.Beside.{one32, beside, beside2, beside3, beside4, beside5}
+use Rattle.quads.specs.Beside.{one32, beside, beside_by, beside5}
 
 -- what is left of a table for the rest of the plan, after the twiddles of a stage of radix p with parts of m places
 abbrev pub after : (ℕ → Complex) → ℕ → ℕ → ℕ → Complex
@@ -13,7 +14,7 @@ after u p m k = u (m * (p - 1) + k)
 -- `column`, with the packed table u, whose last place is a third of a turn: it has as many places as the block but one
 unfoldable pub packed_column : (ℕ → Complex) → Bool → ℕ → ℕ → ℕ → (ℕ → Complex) → ℕ → Complex
 packed_column u inverse p m =
-    cond (eqb p 2) (beside2 u m) (cond (eqb p 3) (beside3 (u (3 * m - 2)) u m) (cond (eqb p 4) (beside4 inverse u m) (λ j. beside5 u)))
+    cond (eqb p 2) (beside_by two u m) (cond (eqb p 3) (beside_by (three (u (3 * m - 2))) u m) (cond (eqb p 4) (beside_by (four inverse) u m) (λ j. beside5 u)))
 
 -- a plan whose innermost stage has radix 5, and no other one: what `kf_work` takes
 unfoldable pub fives : List ℕ → Bool

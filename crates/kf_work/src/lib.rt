@@ -5,34 +5,34 @@
 #![tactic(auto)]
 
 ghost use Rattle.std.specs.Prelude.{◌≡◌, false, ◌+◌, ◌*◌, ◌<◌, ◌≤◌, length, get_or};
-ghost use Rattle.complex.specs.Complex.{at};
-ghost use Rattle.columns.specs.Column.{of5};
+ghost use Rattle.complex.specs.Complex.{at, InBoth};
+ghost use Rattle.laws.specs.Lists.{tab};
 ghost use Rattle.butterflies.specs.Butterflies.{stage};
 ghost use Rattle.kf_work.specs.Work.{plan};
 ghost use Rattle.kf_work.specs.Packed.{packed_column, leaves, worked, PackedTransformed};
 ghost use Rattle.kf_work.specs.Lent.{LeavesFit, WorkFits, TransformFits};
 
-use butterflies::{fives2, fives3, kf_bfly2, kf_bfly3, kf_bfly4, kf_bfly5};
-use columns::Out5;
-use complex::get;
-use quads::{quad2, turn2};
+use butterflies::{fives, kf_bfly5};
+use complex::{Complex, get};
+use quads::{Radix2, Radix3, Radix4, quad, turn};
 
 // Places from, from + s, .. of the input: the five numbers of an innermost stage.
-fn copied(x: &[f32], y: &[f32], s: usize, from: usize) -> Out5
-    requires { («from» + 4 * s < length x.now) × («from» + 4 * s < length y.now) }
-    ensures { result ≡ of5 (λ q. at x.now y.now («from» + q * s)) }
+fn copied(x: &[f32], y: &[f32], s: usize, from: usize) -> [Complex; 5]
+    requires { InBoth («from» + 4 * s) x.now y.now }
+    ensures { result ≡ tab 5 (λ q. at x.now y.now («from» + q * s)) }
 {
-    Out5 {
-        a: get(x, y, from),
-        b: get(x, y, from + s),
-        c: get(x, y, from + 2 * s),
-        d: get(x, y, from + 3 * s),
-        e: get(x, y, from + 4 * s),
-    }
+    [
+        get(x, y, from),
+        get(x, y, from + s),
+        get(x, y, from + 2 * s),
+        get(x, y, from + 3 * s),
+        get(x, y, from + 4 * s),
+    ]
 }
 
-// The innermost stages below the plan's first radix, which they are as many as, one after the other. The radix is read at each round: of a loop with a known
-// count the compiler makes a second, for many rounds, which never runs and takes 480 bytes of the stack of each stage.
+// The innermost stages below the plan's first radix, which they are as many as, one after the other. The radix is read at each round. A `for` was tried, and misses
+// the speed: of a loop with a known count the compiler makes a second, for many rounds, which never runs. A transform of 160 numbers takes 434 instructions more
+// with it, and each stage 632 bytes of stack and not 200.
 fn kf_leaves(
     re: &mut [f32],
     im: &mut [f32],
@@ -56,7 +56,8 @@ fn kf_leaves(
     }
 }
 
-// The butterfly of radix p on the block that begins here.
+// The butterfly of radix p on the block that begins here. A match, since a radix is a type: a `dyn`
+// is no plainer, and would be a call of its own for each column.
 fn kf_bfly(
     re: &mut [f32],
     im: &mut [f32],
@@ -70,9 +71,12 @@ fn kf_bfly(
     ensures { at re.new im.new ≡ stage p m (packed_column (at tr.now ti.now) inverse p m) (at re.old im.old) }
 {
     match p {
-        2 => kf_bfly2(re, im, tr, ti, m),
-        3 => kf_bfly3(re, im, tr, ti, m),
-        _ => kf_bfly4(re, im, tr, ti, m, inverse),
+        2 => butterflies::kf_bfly(re, im, tr, ti, m, Radix2),
+        3 => {
+            let y = get(tr, ti, 3 * m - 2);
+            butterflies::kf_bfly(re, im, tr, ti, m, Radix3 { y });
+        }
+        _ => butterflies::kf_bfly(re, im, tr, ti, m, Radix4 { inverse }),
     }
 }
 
@@ -82,8 +86,11 @@ fn kf_fives(re: &mut [f32], im: &mut [f32], tr: &[f32], ti: &[f32], p: usize, in
     ensures { at re.new im.new ≡ stage p 5 (packed_column (at tr.now ti.now) inverse p 5) (at re.old im.old) }
 {
     match p {
-        2 => fives2(re, im, tr, ti),
-        3 => fives3(re, im, tr, ti),
+        2 => fives(re, im, tr, ti, Radix2),
+        3 => {
+            let y = get(tr, ti, 13);
+            fives(re, im, tr, ti, Radix3 { y });
+        }
         _ => kf_bfly(re, im, tr, ti, p, 5, inverse),
     }
 }
@@ -161,6 +168,6 @@ pub fn transform_10(re: &mut [f32], im: &mut [f32], x: &[f32], y: &[f32], tr: &[
         let column = copied(x, y, 2, q);
         kf_bfly5(&mut re[q * 5..], &mut im[q * 5..], column, ur, ui);
     }
-    quad2(re, im, tr, ti, 5, 0);
-    turn2(re, im, tr, ti, 5, 4);
+    quad(re, im, tr, ti, 5, 0, Radix2);
+    turn(re, im, tr, ti, 5, 4, Radix2);
 }

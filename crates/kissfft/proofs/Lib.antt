@@ -1,2 +1,2 @@
 pub mod Judged
-pub mod Arms
+pub mod Directed

@@ -1,5 +1,5 @@
 -- The answer to a call of the FFT: its refusals in document 01's order, and what it leaves in the output slices. Definitions only.
-use Rattle.std.specs.Prelude.{Bool, cond, ◌&&◌, List, ℕ, min, ltb, eqb, Float, length}
+use Rattle.std.specs.Prelude.{Bool, cond, ◌&&◌, List, ℕ, min, ltb, eqb, Float, length, Option, Some, None}
 use Rattle.laws.specs.Lists.{first}
 use Rattle.laws.specs.Passes.{passes6}
 use Rattle.complex.specs.Complex.{at}
@@ -12,6 +12,12 @@ use Rattle.kf_work.specs.Work.{spectrum, reals, imaginaries, BothParts}
 -- "the lowest place where either part is so"
 abbrev pub first_bad : List Float → List Float → ℕ
 first_bad x y = min (first passes6 x) (first passes6 y)
+
+-- the lower of two places, where there is one
+abbrev pub earlier : Option ℕ → Option ℕ → Option ℕ
+earlier (Some a) (Some b) = Some (min a b)
+earlier (Some a) None = Some a
+earlier None b = b
 
 -- the number for a size, two input slices x and y, and output slices of c and d places
 unfoldable pub number : ℕ → List Float → List Float → ℕ → ℕ → ℕ

@@ -4,131 +4,82 @@
 
 #![tactic(auto)]
 
-ghost use Rattle.std.specs.Prelude.{◌≡◌, ◌++◌, map, ◌≤◌, ◌<◌, length, take, drop};
-ghost use Rattle.std.specs.Float.Ieee.{neg};
-ghost use Rattle.fft_tables.specs.FftTables.{packed_table, packed_table_of};
-ghost use Rattle.kf_work.specs.Work.{plan};
+ghost use Rattle.std.specs.Prelude.{◌≡◌, true, ◌≤◌, length};
+ghost use Rattle.laws.specs.Lists.{failing};
+ghost use Rattle.laws.specs.Passes.{passes6};
+ghost use Rattle.refusals.specs.Refusals.{told_by};
+ghost use Rattle.fft_tables.specs.FftTables.{packed_re, packed_im};
 ghost use Rattle.kf_work.specs.Lent.{TransformFits};
-ghost use Rattle.kissfft.specs.Fft.{first_bad, verdict, Transformed, outcome, answer};
+ghost use Rattle.kissfft.specs.Fft.{earlier, verdict, Transformed, outcome, answer};
 
-use fft_tables::{
-    fft_10, fft_20, fft_30, fft_40, fft_60, fft_80, fft_90, fft_120, fft_160, fft_180, fft_240,
-    plan_10, plan_20, plan_30, plan_40, plan_60, plan_80, plan_90, plan_120, plan_160, plan_180,
-    plan_240,
-};
 use kf_work::transform;
-use refusals::Verdict;
+use refusals::Refusal;
 use twiddles::negate;
 
-// The lowest place where a part does not pass 6, or the length.
-fn first_bad(re: &[f32], im: &[f32]) -> usize
-    ensures { result ≡ first_bad re.now im.now }
+// The lowest place where a part does not pass 6, if there is one.
+fn first_bad(re: &[f32], im: &[f32]) -> Option<usize>
+    ensures { result ≡ earlier (failing passes6 re.now) (failing passes6 im.now) }
 {
-    let a = laws::first_failing_6(re);
-    let b = laws::first_failing_6(im);
-    if a < b { a } else { b }
+    match (laws::first_failing_6(re), laws::first_failing_6(im)) {
+        (Some(a), Some(b)) => Some(a.min(b)),
+        (a, None) => a,
+        (None, b) => b,
+    }
 }
 
 // The refusals, in their order, for outputs of c and d places.
-fn judge(size: usize, x: &[f32], y: &[f32], c: usize, d: usize) -> Verdict
-    ensures { result ≡ verdict size x.now y.now c d }
+fn judge(size: usize, x: &[f32], y: &[f32], c: usize, d: usize) -> Result<(), Refusal>
+    ensures { told_by result ≡ verdict size x.now y.now c d }
 {
     if !config::is_fft_size(size) {
-        return Verdict::told(refusals::BAD_SIZE);
+        return Err(Refusal::BadSize);
     }
-    if x.len() != size {
-        return Verdict::told(refusals::BAD_INPUT);
+    if x.len() != size || y.len() != size {
+        return Err(Refusal::BadInput);
     }
-    if y.len() != size {
-        return Verdict::told(refusals::BAD_INPUT);
+    if c != size || d != size {
+        return Err(Refusal::BadOutput);
     }
-    if c != size {
-        return Verdict::told(refusals::BAD_OUTPUT);
+    match first_bad(x, y) {
+        Some(index) => Err(Refusal::BadValue(index)),
+        None => Ok(()),
     }
-    if d != size {
-        return Verdict::told(refusals::BAD_OUTPUT);
-    }
-    let bad = first_bad(x, y);
-    if bad < size {
-        return Verdict {
-            number: refusals::BAD_VALUE,
-            index: bad,
-        };
-    }
-    Verdict::told(refusals::ACCEPTED)
 }
 
-// The transform with the plan of its size and the table of its direction: the real parts, then the imaginary parts.
-fn with_table(
+// The inverse transform, with the imaginary parts of the forward twiddles of its size, which are
+// negated in an area of the function's own, of N places. To clear an area as large as the largest
+// size needs costs a small transform more than to copy its twiddles.
+fn inverted<const N: usize>(
     re: &mut [f32],
     im: &mut [f32],
     x: &[f32],
     y: &[f32],
-    t: &[f32],
-    factors: &[usize],
-    inverse: bool,
+    tr: &[f32],
+    ti: &[f32],
 )
-    requires { TransformFits x.now y.now re.old im.old × (t.now ≡ packed_table_of inverse (length x.now)) × (factors.now ≡ plan (length x.now)) }
-    ensures { Transformed inverse x.now y.now re.new im.new }
+    requires { TransformFits x.now y.now re.old im.old × (tr.now ≡ packed_re (length x.now)) × (ti.now ≡ packed_im (length x.now)) × (length ti.now ≤ N) × (N ≤ 239) }
+    ensures { Transformed true x.now y.now re.new im.new }
 {
-    let c = x.len() - 1;
-    transform(re, im, x, y, &t[..c], &t[c..], factors, inverse);
+    let mut room = [0.0f32; N];
+    let ui = &mut room[..ti.len()];
+    ui.copy_from_slice(ti);
+    negate(ui);
+    transform(re, im, x, y, tr, ui, fft_tables::plan(x.len()), true);
 }
 
-// A table of c real parts with its imaginary parts negated.
-fn invert(t: &mut [f32], c: usize)
-    requires { c ≤ length t.old }
-    ensures { t.new ≡ take c t.old ++ map neg (drop c t.old) }
-{
-    negate(&mut t[c..]);
-}
-
-// The transform with the forward table of its size, which the inverse inverts first.
-fn with_forward_table(
-    re: &mut [f32],
-    im: &mut [f32],
-    x: &[f32],
-    y: &[f32],
-    t: &mut [f32],
-    factors: &[usize],
-    inverse: bool,
-)
-    requires { TransformFits x.now y.now re.old im.old × (t.old ≡ packed_table (length x.now)) × (factors.now ≡ plan (length x.now)) }
-    ensures { Transformed inverse x.now y.now re.new im.new × (t.new ≡ packed_table_of inverse (length x.now)) }
-{
-    if inverse {
-        invert(t, x.len() - 1);
-    }
-    with_table(re, im, x, y, t, factors, inverse);
-}
-
-// The transform of more than 40 numbers, with the table and the plan of its size. It stands apart so that neither match has all the tables: that takes a check more than 2 GB.
-fn run_large(re: &mut [f32], im: &mut [f32], x: &[f32], y: &[f32], inverse: bool)
-    requires { TransformFits x.now y.now re.old im.old × (40 < length x.now) }
-    ensures { Transformed inverse x.now y.now re.new im.new }
-{
-    match x.len() {
-        60 => with_forward_table(re, im, x, y, &mut fft_60(), &plan_60(), inverse),
-        80 => with_forward_table(re, im, x, y, &mut fft_80(), &plan_80(), inverse),
-        90 => with_forward_table(re, im, x, y, &mut fft_90(), &plan_90(), inverse),
-        120 => with_forward_table(re, im, x, y, &mut fft_120(), &plan_120(), inverse),
-        160 => with_forward_table(re, im, x, y, &mut fft_160(), &plan_160(), inverse),
-        180 => with_forward_table(re, im, x, y, &mut fft_180(), &plan_180(), inverse),
-        _ => with_forward_table(re, im, x, y, &mut fft_240(), &plan_240(), inverse),
-    }
-}
-
-// The transform with the table and the plan of its size.
+// The transform with the tables and the plan of its size.
 fn run(re: &mut [f32], im: &mut [f32], x: &[f32], y: &[f32], inverse: bool)
     requires { TransformFits x.now y.now re.old im.old }
     ensures { Transformed inverse x.now y.now re.new im.new }
 {
-    match x.len() {
-        10 => with_forward_table(re, im, x, y, &mut fft_10(), &plan_10(), inverse),
-        20 => with_forward_table(re, im, x, y, &mut fft_20(), &plan_20(), inverse),
-        30 => with_forward_table(re, im, x, y, &mut fft_30(), &plan_30(), inverse),
-        40 => with_forward_table(re, im, x, y, &mut fft_40(), &plan_40(), inverse),
-        _ => run_large(re, im, x, y, inverse),
+    let n = x.len();
+    let (tr, ti) = fft_tables::packed(n).split_at(n - 1);
+    if !inverse {
+        transform(re, im, x, y, tr, ti, fft_tables::plan(n), false);
+    } else if n <= 40 {
+        inverted::<39>(re, im, x, y, tr, ti);
+    } else {
+        inverted::<239>(re, im, x, y, tr, ti);
     }
 }
 
@@ -140,13 +91,10 @@ pub fn fft(
     im_in: &[f32],
     re_out: &mut [f32],
     im_out: &mut [f32],
-) -> Verdict
-    ensures { outcome result re_out.new im_out.new ≡ answer size inverse re_in.now im_in.now re_out.old im_out.old }
+) -> Result<(), Refusal>
+    ensures { outcome (told_by result) re_out.new im_out.new ≡ answer size inverse re_in.now im_in.now re_out.old im_out.old }
 {
-    let v = judge(size, re_in, im_in, re_out.len(), im_out.len());
-    if v.number != refusals::ACCEPTED {
-        return v;
-    }
+    judge(size, re_in, im_in, re_out.len(), im_out.len())?;
     run(re_out, im_out, re_in, im_in, inverse);
-    v
+    Ok(())
 }

@@ -2,18 +2,21 @@
 -- Assumes nothing.
 use mathlib.Core.Path.{◌≡◌, refl, sym, ap, ◌∙◌}
 use mathlib.Core.Logic.{⊎_elim}
-use mathlib.Core.Bool.{Bool, true, false, not, cond}
+use mathlib.Core.Bool.{Bool, true, false, not, cond, ◌&&◌}
 use mathlib.Core.List.{List, [], ◌∷◌, ◌++◌, append-nil, map}
 use Prim.Native.Nat.{ℕ, zero, suc, ◌+◌, ◌≤◌, ◌<◌}
 use native.Mathlib.Nat.{not-suc-le-zero, le_of_suc-le-suc}
 use native.Mathlib.Numerals.{add-one}
 use native.Mathlib.Omega.{arith}
 use borrow.Author.Count.{below_more}
-use borrow.Author.Tests.{eq-eqb, ne_eqb, not-true, not-false}
-use lib.Dec.{eqb}
+use borrow.Author.Tests.{eqb-true, eq-eqb, ne_eqb, le-ltb, lt-ltb, not-true, not-false}
+use lib.Dec.{eqb, eqb-suc-suc, eqb-zero-suc}
 use lib.ListN.{length, get_or, take, drop, set, length-set, replicate, length-replicate, get_or-replicate}
 use lib.Seq.{drop-cons, set_at, append_snoc, drop-length, get_or_at, ext_get_or}
-use Rattle.laws.specs.Lists.{tab, first}
+use Rattle.std.proofs.lemmas.Bool.Decides.{leb_tells}
+use Rattle.std.specs.Prelude.{fold, Some, None, ltb}
+use Rattle.std.specs.List.{prefix_len}
+use Rattle.laws.specs.Lists.{tab, first, failing}
 use Rattle.laws.proofs.Bools.{outcomes}
 
 pub length-tab : {A : Type 0} (n : ℕ) (f : ℕ → A) → length (tab n f) ≡ n
@@ -193,21 +196,42 @@ first_below p (x ∷ xs) d (suc k) l e =
     go true h = omega arith
     go false h = omega arith
 
--- what a pass over the first i places has seen: all of them pass, or one does not
-pub data Seen {A : Type 0} (p : A → Bool) (l : List A) (d : A) (i : ℕ) : Bool → Type 0 where
-  passing : ((k : ℕ) → k < i → p (get_or l k d) ≡ true) → Seen p l d i true
-  failing : (k : ℕ) → k < i → p (get_or l k d) ≡ false → Seen p l d i false
+-- the library's `position`, of a test turned round
+twice : {A : Type 0} (p : A → Bool) (l : List A) → prefix_len (λ x. not (not (p x))) l ≡ first p l
+unfolding first
+twice p [] = refl
+twice p (x ∷ xs) = ⊎_elim (λ t. rw t (let h = twice p xs in omega arith)) (λ f. rw f refl) (outcomes (p x))
 
-pub seen_more : {A : Type 0} {p : A → Bool} {l : List A} {d : A} {i : ℕ} {b : Bool} → Seen p l d i b → p (get_or l i d) ≡ true → Seen p l d (i + 1) b
-seen_more (passing h) e = passing (below_more _ _ h e)
-seen_more (failing k l e) f = failing k (omega arith) e
+pub failing_first : {A : Type 0} (p : A → Bool) (l : List A) → failing p l ≡ cond (ltb (first p l) (length l)) (Some (first p l)) None
+failing_first p l = ap (λ (n : ℕ). cond (ltb n (length l)) (Some n) None) (twice p l)
 
-pub seen_one : {A : Type 0} (p : A → Bool) (l : List A) (d : A) (i : ℕ) → p (get_or l i d) ≡ false → Seen p l d (i + 1) false
-seen_one p l d i e = failing i (omega arith) e
+-- the same, by whether the first is at the end
+pub failing_last : {A : Type 0} (p : A → Bool) (l : List A) → failing p l ≡ cond (not (eqb (first p l) (length l))) (Some (first p l)) None
+failing_last p l =
+    failing_first p l
+    ∙ ap (λ (b : Bool). cond b (Some (first p l)) None)
+    (⊎_elim
+    (λ t. le-ltb (first p l) (length l) t.1 ∙ sym (ap not (eq-eqb (first p l) (length l) (let h = t.1 in let g = first-le p l in omega arith))))
+    (λ f. lt-ltb (first p l) (length l) f.1 ∙ sym (ap not (ne_eqb (first p l) (length l) (λ e. let h = f.1 in omega arith))))
+    (leb_tells (length l) (first p l)))
 
-pub seen_all : {A : Type 0} {p : A → Bool} {l : List A} {d : A} {b : Bool} → Seen p l d (length l) b → b ≡ eqb (first p l) (length l)
-seen_all {p = p} {l = l} {d = d} (passing h) = sym (eq-eqb (first p l) (length l) (sym (first-none p l d h)))
-seen_all {p = p} {l = l} {d = d} (failing k h e) = sym (ne_eqb (first p l) (length l) (less (first p l) (length l) (first_below p l d k h e)))
+pub failing_none : {A : Type 0} (p : A → Bool) (l : List A) → eqb (first p l) (length l) ≡ true → failing p l ≡ None
+failing_none p l e = failing_first p l ∙ rw (le-ltb (first p l) (length l) (let h = eqb-true (first p l) (length l) e in omega arith))
+
+-- what a fold over all values has seen: whether they pass
+and-true : (b : Bool) → b ≡ (b && true)
+and-true true = refl
+and-true false = refl
+
+and-false : (b : Bool) → false ≡ (b && false)
+and-false true = refl
+and-false false = refl
+
+pub folded_all : {A : Type 0} (p : A → Bool) (l : List A) (b : Bool) → fold (λ (all : Bool) x. p x && all) b l ≡ (b && eqb (first p l) (length l))
+unfolding first
+folded_all p [] b = and-true b
+folded_all {A} p (x ∷ xs) b = go (p x) (folded_all p xs)
   where
-    less : (a b : ℕ) → a < b → a ≡ b → ⊥
-    less a b h e = omega arith
+    go : (t : Bool) → ((c : Bool) → fold (λ (all : Bool) (y : A). p y && all) c xs ≡ (c && eqb (first p xs) (length xs))) → fold (λ (all : Bool) (y : A). p y && all) (t && b) xs ≡ (b && eqb (cond t (suc (first p xs)) zero) (suc (length xs)))
+    go true h = h b ∙ ap (λ c. b && c) (sym (eqb-suc-suc (first p xs) (length xs)))
+    go false h = h false ∙ and-false b ∙ ap (λ c. b && c) (sym (eqb-zero-suc (length xs)))

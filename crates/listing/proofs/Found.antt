@@ -13,22 +13,29 @@ use Rattle.config.specs.Config.{valid, configs, row, nf, none}
 use Rattle.config.specs.declared.Lc3Config.{Lc3Config}
 use Rattle.config.specs.Tables.{rows}
 use Rattle.config.proofs.Sound.{sound, lt-valid}
+use Rattle.std.specs.Prelude.{Result, Ok, Err}
+use Rattle.refusals.specs.declared.Refusal.{Refusal}
+use Rattle.refusals.specs.declared.Refusal.TheVariants.{BadConfig, CutFrame}
 use Rattle.frame_file.specs.declared.Record.{Record}
-use Rattle.frame_file.specs.declared.Record.TheVariants.{Frame, End, Cut, Astray}
+use Rattle.frame_file.specs.declared.Record.TheVariants.{Frame, End}
 use Rattle.frame_file.specs.File.{frame_bytes, record_of}
 
 -- how many bytes a record uses
-abbrev pub used_by : Record → ℕ
-used_by (Frame used) = used
-used_by End = 0
-used_by Cut = 0
-used_by Astray = 0
+abbrev pub used_of : Record → ℕ
+used_of (Frame used) = used
+used_of End = 0
 
-abbrev framed? : Record → ℕ
-framed? (Frame used) = 1
-framed? End = 0
-framed? Cut = 0
-framed? Astray = 0
+abbrev pub used_by : Result Record Refusal → ℕ
+used_by (Ok found) = used_of found
+used_by (Err refusal) = 0
+
+abbrev frame? : Record → ℕ
+frame? (Frame used) = 1
+frame? End = 0
+
+abbrev framed? : Result Record Refusal → ℕ
+framed? (Ok found) = frame? found
+framed? (Err refusal) = 0
 
 pub record Whole (c : ℕ) (f : List ℕ) (used : ℕ) : Type 0 where
   pub known : T (valid c)
@@ -36,13 +43,13 @@ pub record Whole (c : ℕ) (f : List ℕ) (used : ℕ) : Type 0 where
   pub room : frame_bytes c ≤ length f
 
 -- the tests of `record_of`, one by one
-decided : (v e s : Bool) (n used : ℕ) → cond v (cond e End (cond s Cut (Frame n))) Astray ≡ Frame used → (v ≡ true) × (s ≡ false) × (used ≡ n)
+decided : (v e s : Bool) (n used : ℕ) → cond v (cond e (Ok End) (cond s (Err CutFrame) (Ok (Frame n)))) (Err BadConfig) ≡ Ok (Frame used) → (v ≡ true) × (s ≡ false) × (used ≡ n)
 decided true true s n used q = let o : ◌≡◌ {A = ℕ} 0 1 = ap framed? q in absurd (omega arith)
 decided true false true n used q = let o : ◌≡◌ {A = ℕ} 0 1 = ap framed? q in absurd (omega arith)
 decided true false false n used q = (refl, refl, sym (ap used_by q))
 decided false e s n used q = let o : ◌≡◌ {A = ℕ} 0 1 = ap framed? q in absurd (omega arith)
 
-pub whole : (c : ℕ) (f : List ℕ) (used : ℕ) → record_of c f ≡ Frame used → Whole c f used
+pub whole : (c : ℕ) (f : List ℕ) (used : ℕ) → record_of c f ≡ Ok (Frame used) → Whole c f used
 unfolding record_of
 whole c f used q =
     let d = decided (valid c) (eqb (length f) 0) (ltb (length f) (frame_bytes c)) (frame_bytes c) used q in

@@ -19,10 +19,12 @@ use Rattle.analysis.specs.declared.Channel.{Channel}
 use Rattle.refusals.specs.Refusals.{clearing}
 use Rattle.analysis.specs.Analysis.{Lent, number, framed as called, frames, lent, cleared, cleared_as}
 use Rattle.frame_file.specs.declared.Header.{Header}
-use Rattle.frame_file.specs.declared.Header.TheVariants.{Good, Short, Unmarked, Foreign, Unknown}
 use Rattle.frame_file.specs.declared.Record.{Record}
-use Rattle.frame_file.specs.declared.Record.TheVariants.{Frame, End, Cut, Astray}
-use Rattle.frame_file.specs.File.{lmf, byte, short_at, samples, marked, header_of, frame_bytes, record_of, Contents, more, ended, reading, contents}
+use Rattle.frame_file.specs.declared.Record.TheVariants.{Frame, End}
+use Rattle.std.specs.Prelude.{Result, Ok, Err}
+use Rattle.refusals.specs.declared.Refusal.{Refusal}
+use Rattle.refusals.specs.declared.Refusal.TheVariants.{BadConfig, ShortFile, BadMark, BadVersion}
+use Rattle.frame_file.specs.File.{lmf, byte, short_at, samples, marked, header_of, frame_bytes, record_of, good as good_header, Contents, more, ended, reading, contents}
 use Rattle.listing.specs.declared.Lister.{Lister}
 use Rattle.listing.specs.declared.Stepped.{Stepped}
 use Rattle.listing.specs.Text.{first_line}
@@ -68,34 +70,39 @@ unfolding counted
 counts n h = rw (lt-ltb n (2 ^ 64 - 1) h) (add-one n)
 
 -- ---- a step and the file's contents by the record that stands there
-abbrev found_at : ℕ → Lister → List ℕ → Record → Stepped
-found_at c l g (Frame used) = framed l used (listened l.channel (samples (nf c) (take used g)))
-found_at c l g End = found l g End
-found_at c l g Cut = found l g Cut
-found_at c l g Astray = found l g Astray
+abbrev standing_at : ℕ → Lister → List ℕ → Record → Stepped
+standing_at c l g (Frame used) = framed l used (listened l.channel (samples (nf c) (take used g)))
+standing_at c l g End = found l g (Ok End)
 
-same_found : (l : Lister) (g : List ℕ) (r : Record) → found l g r ≡ found_at l.channel.config l g r
-same_found l g (Frame used) = refl
-same_found l g End = refl
-same_found l g Cut = refl
-same_found l g Astray = refl
+abbrev found_at : ℕ → Lister → List ℕ → Result Record Refusal → Stepped
+found_at c l g (Ok r) = standing_at c l g r
+found_at c l g (Err e) = found l g (Err e)
+
+same_standing : (l : Lister) (g : List ℕ) (r : Record) → found l g (Ok r) ≡ standing_at l.channel.config l g r
+same_standing l g (Frame used) = refl
+same_standing l g End = refl
+
+same_found : (l : Lister) (g : List ℕ) (r : Result Record Refusal) → found l g r ≡ found_at l.channel.config l g r
+same_found l g (Ok r) = same_standing l g r
+same_found l g (Err e) = refl
 
 step-at : (c : ℕ) (l : Lister) (g : List ℕ) → l.channel.config ≡ c → step l g ≡ found_at c l g (record_of c g)
 unfolding step
 step-at c l g e = subst (λ (k : ℕ). step l g ≡ found_at k l g (record_of k g)) e (same_found l g (record_of l.channel.config g))
 
-abbrev rest : ℕ → ℕ → List ℕ → Record → Contents
-rest m c g (Frame used) = more (samples (nf c) (take used g)) (reading m c (drop used g))
-rest m c g End = ended End
-rest m c g Cut = ended Cut
-rest m c g Astray = ended Astray
+abbrev rest_of : ℕ → ℕ → List ℕ → Record → Contents
+rest_of m c g (Frame used) = more (samples (nf c) (take used g)) (reading m c (drop used g))
+rest_of m c g End = ended (Ok End)
 
-reading_by : (m c : ℕ) (g : List ℕ) (r : Record) → record_of c g ≡ r → reading (suc m) c g ≡ rest m c g r
+abbrev rest : ℕ → ℕ → List ℕ → Result Record Refusal → Contents
+rest m c g (Ok r) = rest_of m c g r
+rest m c g (Err e) = ended (Err e)
+
+reading_by : (m c : ℕ) (g : List ℕ) (r : Result Record Refusal) → record_of c g ≡ r → reading (suc m) c g ≡ rest m c g r
 unfolding reading
-reading_by m c g (Frame used) e = rw (e, reading)
-reading_by m c g End e = rw (e, reading)
-reading_by m c g Cut e = rw (e, reading)
-reading_by m c g Astray e = rw (e, reading)
+reading_by m c g (Ok (Frame used)) e = rw (e, reading)
+reading_by m c g (Ok End) e = rw (e, reading)
+reading_by m c g (Err q) e = rw (e, reading)
 
 -- ---- the lines from a record on
 abbrev tail : Lister → Contents → List ℕ
@@ -110,8 +117,8 @@ shift : (a b : ℕ) → a + suc b ≡ suc a + b
 shift a b = omega arith
 
 module _ (m : ℕ) (go : Run m) (c : ℕ) (l : Lister) (g : List ℕ) (e : l.channel.config ≡ c) (short : length g < suc m) where
-  on_frame : (n used : ℕ) → record_of c g ≡ Frame used → length g ≤ suc n → length (rest m c g (Frame used)).frames + l.count < 2 ^ 64
-      → written (suc n) (found_at c l g (Frame used)) g ≡ tail l (rest m c g (Frame used))
+  on_frame : (n used : ℕ) → record_of c g ≡ Ok (Frame used) → length g ≤ suc n → length (rest m c g (Ok (Frame used))).frames + l.count < 2 ^ 64
+      → written (suc n) (found_at c l g (Ok (Frame used))) g ≡ tail l (rest m c g (Ok (Frame used)))
   unfolding frame_lines
   on_frame n used q room few =
       let w = whole c g used q in
@@ -132,21 +139,20 @@ module _ (m : ℕ) (go : Run m) (c : ℕ) (l : Lister) (g : List ℕ) (e : l.cha
       ∙ sym (append_assoc (line_of l.count h) (frame_lines h.channel (suc l.count) k.frames) (last_line (suc (length k.frames) + l.count) k.ending))
 
   -- a frame has bytes, so there is a turn for it
-  on_any : (n used : ℕ) → record_of c g ≡ Frame used → length g ≤ n → length (rest m c g (Frame used)).frames + l.count < 2 ^ 64
-      → written n (found_at c l g (Frame used)) g ≡ tail l (rest m c g (Frame used))
+  on_any : (n used : ℕ) → record_of c g ≡ Ok (Frame used) → length g ≤ n → length (rest m c g (Ok (Frame used))).frames + l.count < 2 ^ 64
+      → written n (found_at c l g (Ok (Frame used))) g ≡ tail l (rest m c g (Ok (Frame used)))
   on_any zero used q room few =
       let w = whole c g used q in
       let s = sound c w.known in
       absurd (omega (arith, w.room, s.even, s.half_pos))
   on_any (suc n) used q room few = on_frame n used q room few
 
-  by_record : (n : ℕ) (r : Record) → record_of c g ≡ r → length g ≤ n → length (rest m c g r).frames + l.count < 2 ^ 64
+  by_record : (n : ℕ) (r : Result Record Refusal) → record_of c g ≡ r → length g ≤ n → length (rest m c g r).frames + l.count < 2 ^ 64
       → written n (found_at c l g r) g ≡ tail l (rest m c g r)
   unfolding frame_lines
-  by_record n (Frame used) q room few = on_any n used q room few
-  by_record n End q room few = ends n _ g l ∙ ap (λ (z : ℕ). last_line z End) (sym (zero-add l.count))
-  by_record n Cut q room few = ends n _ g l
-  by_record n Astray q room few = ends n _ g l
+  by_record n (Ok (Frame used)) q room few = on_any n used q room few
+  by_record n (Ok End) q room few = ends n _ g l ∙ ap (λ (z : ℕ). last_line z (Ok End)) (sym (zero-add l.count))
+  by_record n (Err e) q room few = ends n _ g l
 
 run : (m : ℕ) → Run m
 run zero n c l g e short room few = absurd (not-suc-le-zero short)
@@ -157,50 +163,42 @@ run (suc m) n c l g e short room few =
     ∙ ap (tail l) (sym k)
 
 -- ---- a good header's configuration
-abbrev good? : Header → ℕ
-good? (Good v c) = 1
-good? Short = 0
-good? Unmarked = 0
-good? Foreign = 0
-good? Unknown = 0
+abbrev good? : Result Header Refusal → ℕ
+good? (Ok h) = 1
+good? (Err e) = 0
 
-abbrev config_of : Header → ℕ
-config_of (Good v c) = c
-config_of Short = 0
-config_of Unmarked = 0
-config_of Foreign = 0
-config_of Unknown = 0
+abbrev config_of : Result Header Refusal → ℕ
+config_of (Ok h) = h.config
+config_of (Err e) = 0
 
-decided : (a b d k : Bool) (v c v' c' : ℕ) → cond a Short (cond b (cond d (cond k (Good v c) Unknown) Foreign) Unmarked) ≡ Good v' c' → (k ≡ true) × (c ≡ c')
-decided true b d k v c v' c' q = let o : ◌≡◌ {A = ℕ} 0 1 = ap good? q in absurd (omega arith)
-decided false false d k v c v' c' q = let o : ◌≡◌ {A = ℕ} 0 1 = ap good? q in absurd (omega arith)
-decided false true false k v c v' c' q = let o : ◌≡◌ {A = ℕ} 0 1 = ap good? q in absurd (omega arith)
-decided false true true false v c v' c' q = let o : ◌≡◌ {A = ℕ} 0 1 = ap good? q in absurd (omega arith)
-decided false true true true v c v' c' q = (refl, ap config_of q)
+decided : (a b d k : Bool) (v c : ℕ) (h : Header) → cond a (Err ShortFile) (cond b (cond d (cond k (good_header v c) (Err BadConfig)) (Err BadVersion)) (Err BadMark)) ≡ Ok h → (k ≡ true) × (c ≡ h.config)
+decided true b d k v c h q = let o : ◌≡◌ {A = ℕ} 0 1 = ap good? q in absurd (omega arith)
+decided false false d k v c h q = let o : ◌≡◌ {A = ℕ} 0 1 = ap good? q in absurd (omega arith)
+decided false true false k v c h q = let o : ◌≡◌ {A = ℕ} 0 1 = ap good? q in absurd (omega arith)
+decided false true true false v c h q = let o : ◌≡◌ {A = ℕ} 0 1 = ap good? q in absurd (omega arith)
+decided false true true true v c h q = (refl, ap config_of q)
 
-good_valid : (f : List ℕ) (v c : ℕ) → header_of lmf f ≡ Good v c → T (valid c)
+good_valid : (f : List ℕ) (h : Header) → header_of lmf f ≡ Ok h → T (valid h.config)
 unfolding header_of
-good_valid f v c q =
-    let d = decided (ltb (length f) 6) (marked lmf f) (eqb (short_at f 3) 1) (valid (byte f 5)) (short_at f 3) (byte f 5) v c q in
+good_valid f h q =
+    let d = decided (ltb (length f) 6) (marked lmf f) (eqb (short_at f 3) 1) (valid (byte f 5)) (short_at f 3) (byte f 5) h q in
     subst (λ (k : ℕ). T (valid k)) d.1 (subst T (sym d.0) tt)
 
 -- ---- the whole file
-good : (f : List ℕ) (v c : ℕ) → T (valid c) → whole_frames (Good v c) f < 2 ^ 64 → written (suc (length f)) (opened (Good v c)) f ≡ listed (Good v c) f
+good : (f : List ℕ) (h : Header) → T (valid h.config) → whole_frames (Ok h) f < 2 ^ 64 → written (suc (length f)) (opened (Ok h)) f ≡ listed (Ok h) f
 unfolding contents
-good f v c known few =
+good f h known few =
+    let c = h.config in
     let g = drop 6 f in
     let k = reading (suc (length g)) c g in
-    goes_on (length f) (first_line v c) f 6 (start c) (omega arith)
-    ∙ ap (λ (t : List ℕ). first_line v c ++ t)
+    goes_on (length f) (first_line h.version c) f 6 (start c) (omega arith)
+    ∙ ap (λ (t : List ℕ). first_line h.version c ++ t)
     (run (suc (length g)) (length f) c (start c) g (cleared_config c known) (omega arith) (omega (arith, length-drop 6 f)) (omega arith)
     ∙ ap (λ (z : ℕ). frame_lines (cleared c).channel 0 k.frames ++ last_line z k.ending) (add-zero (length k.frames)))
 
-of_header : (f : List ℕ) (h : Header) → header_of lmf f ≡ h → whole_frames h f < 2 ^ 64 → written (suc (length f)) (opened h) f ≡ listed h f
-of_header f (Good v c) q few = good f v c (good_valid f v c q) few
-of_header f Short q few = ends (suc (length f)) _ f (start 255)
-of_header f Unmarked q few = ends (suc (length f)) _ f (start 255)
-of_header f Foreign q few = ends (suc (length f)) _ f (start 255)
-of_header f Unknown q few = ends (suc (length f)) _ f (start 255)
+of_header : (f : List ℕ) (h : Result Header Refusal) → header_of lmf f ≡ h → whole_frames h f < 2 ^ 64 → written (suc (length f)) (opened h) f ≡ listed h f
+of_header f (Ok h) q few = good f h (good_valid f h q) few
+of_header f (Err e) q few = ends (suc (length f)) _ f (start 255)
 
 -- ---- what a step reads: a frame's bytes, of the header six, so that the program may hand it these alone
 reads : (c : ℕ) (f : List ℕ) → T (valid c) → record_of c (take (frame_bytes c) f) ≡ record_of c f
@@ -220,17 +218,15 @@ reads c f v =
     ))
     (outcomes (ltb (length f) (frame_bytes c)))
 
-found_reads : (l : Lister) (f : List ℕ) (r : Record) → used_by r ≤ frame_bytes l.channel.config → found l (take (frame_bytes l.channel.config) f) r ≡ found l f r
-found_reads l f (Frame used) h = ap (λ (x : List ℕ). framed l used (listened l.channel (samples (nf l.channel.config) x))) (take-take used (frame_bytes l.channel.config) f h)
-found_reads l f End h = refl
-found_reads l f Cut h = refl
-found_reads l f Astray h = refl
+found_reads : (l : Lister) (f : List ℕ) (r : Result Record Refusal) → used_by r ≤ frame_bytes l.channel.config → found l (take (frame_bytes l.channel.config) f) r ≡ found l f r
+found_reads l f (Ok (Frame used)) h = ap (λ (x : List ℕ). framed l used (listened l.channel (samples (nf l.channel.config) x))) (take-take used (frame_bytes l.channel.config) f h)
+found_reads l f (Ok End) h = refl
+found_reads l f (Err e) h = refl
 
-used_most : (c : ℕ) (f : List ℕ) (r : Record) → record_of c f ≡ r → used_by r ≤ frame_bytes c
-used_most c f (Frame used) q = omega (arith, (whole c f used q).uses)
-used_most c f End q = omega arith
-used_most c f Cut q = omega arith
-used_most c f Astray q = omega arith
+used_most : (c : ℕ) (f : List ℕ) (r : Result Record Refusal) → record_of c f ≡ r → used_by r ≤ frame_bytes c
+used_most c f (Ok (Frame used)) q = omega (arith, (whole c f used q).uses)
+used_most c f (Ok End) q = omega arith
+used_most c f (Err e) q = omega arith
 
 -- THE STATEMENT
 pub listed-whole : Listed

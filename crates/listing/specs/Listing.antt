@@ -1,5 +1,5 @@
 -- THE LISTING of a file, as one function from its bytes to the text's (document 01, "Frame file and listing"). Definitions only.
-use Rattle.std.specs.Prelude.{ℕ, suc, ◌≡◌, List, [], ◌∷◌, ◌++◌, ℤ, length, drop, replicate, Float}
+use Rattle.std.specs.Prelude.{ℕ, suc, ◌≡◌, List, [], ◌∷◌, ◌++◌, ℤ, length, drop, replicate, Float, Result, Ok, Err}
 use Rattle.std.specs.Float.{binary32}
 use Rattle.std.specs.Float.Ieee.{of_bits}
 use Rattle.config.specs.Config.{nf, nb}
@@ -7,11 +7,11 @@ use Rattle.analysis.specs.declared.Channel.{Channel}
 use Rattle.analysis.specs.Analysis.{Given, cleared, frames, lent}
 use Rattle.measurement.specs.Measurement as ms
 use Rattle.loudest.specs.Loudest.{heard}
+use Rattle.refusals.specs.declared.Refusal.{Refusal}
+use Rattle.refusals.specs.Refusals.{number_of}
 use Rattle.frame_file.specs.declared.Header.{Header}
-use Rattle.frame_file.specs.declared.Header.TheVariants.{Good, Short, Unmarked, Foreign, Unknown}
 use Rattle.frame_file.specs.declared.Record.{Record}
-use Rattle.frame_file.specs.declared.Record.TheVariants.{Frame, End, Cut, Astray}
-use Rattle.frame_file.specs.File.{lmf, header_of, header_number, record_number, Contents, contents}
+use Rattle.frame_file.specs.File.{lmf, header_of, Contents, contents}
 use Rattle.listing.specs.declared.frame.Listened.{Listened}
 use Rattle.listing.specs.Text.{first_line, frame_line, end_line, refused_line}
 
@@ -46,23 +46,18 @@ frame_lines ch n (x ∷ xs) = line_of n (listened ch x) ++ frame_lines (listened
 
 -- ---- the whole
 -- "last, `end` and the frame count, or `refused` and the number"
-abbrev pub last_line : ℕ → Record → List ℕ
-last_line count End = end_line count
-last_line count (Frame used) = end_line count
-last_line count Cut = refused_line (record_number Cut)
-last_line count Astray = refused_line (record_number Astray)
+abbrev pub last_line : ℕ → Result Record Refusal → List ℕ
+last_line count (Ok found) = end_line count
+last_line count (Err refusal) = refused_line (number_of refusal)
 
 -- "A cut frame comes after the whole frames have been listed"
 abbrev pub body : ℕ → Contents → List ℕ
 body c k = frame_lines (cleared c).channel 0 k.frames ++ last_line (length k.frames) k.ending
 
 -- "A bad header gives the last line alone"
-abbrev pub listed : Header → List ℕ → List ℕ
-listed (Good version c) f = first_line version c ++ body c (contents c (drop 6 f))
-listed Short f = refused_line (header_number Short)
-listed Unmarked f = refused_line (header_number Unmarked)
-listed Foreign f = refused_line (header_number Foreign)
-listed Unknown f = refused_line (header_number Unknown)
+abbrev pub listed : Result Header Refusal → List ℕ → List ℕ
+listed (Ok header) f = first_line header.version header.config ++ body header.config (contents header.config (drop 6 f))
+listed (Err refusal) f = refused_line (number_of refusal)
 
 unfoldable pub listing : List ℕ → List ℕ
 listing f = listed (header_of lmf f) f

@@ -1,14 +1,15 @@
 -- The listing step by step, as the program asks for it: each step is handed what is left of the file, and tells its line, how many bytes it
 -- used (0 at the last line) and what it carries on. Definitions only.
-use Rattle.std.specs.Prelude.{ℕ, zero, suc, ◌+◌, ◌-◌, ◌^◌, true, false, cond, List, ◌++◌, ltb, eqb, length, take, drop, replicate}
+use Rattle.std.specs.Prelude.{ℕ, zero, suc, ◌+◌, ◌-◌, ◌^◌, true, false, cond, List, ◌++◌, ltb, eqb, length, take, drop, replicate, Result, Ok, Err}
 use Rattle.std.proofs.Math.Seq.{paste}
 use Rattle.config.specs.Config.{nf}
 use Rattle.analysis.specs.Analysis.{cleared}
+use Rattle.refusals.specs.declared.Refusal.{Refusal}
+use Rattle.refusals.specs.Refusals.{number_of}
 use Rattle.frame_file.specs.declared.Header.{Header}
-use Rattle.frame_file.specs.declared.Header.TheVariants.{Good, Short, Unmarked, Foreign, Unknown}
 use Rattle.frame_file.specs.declared.Record.{Record}
-use Rattle.frame_file.specs.declared.Record.TheVariants.{Frame, End, Cut, Astray}
-use Rattle.frame_file.specs.File.{lmf, samples, header_of, header_number, record_of, record_number, contents}
+use Rattle.frame_file.specs.declared.Record.TheVariants.{Frame, End}
+use Rattle.frame_file.specs.File.{lmf, samples, header_of, record_of, contents}
 use Rattle.listing.specs.declared.line.Text.{Text}
 use Rattle.listing.specs.declared.Lister.{Lister}
 use Rattle.listing.specs.declared.Stepped.{Stepped}
@@ -44,12 +45,9 @@ abbrev pub last : Lister → List ℕ → Stepped
 last l line = told line 0 l
 
 -- the header
-abbrev pub opened : Header → Stepped
-opened (Good version c) = told (first_line version c) 6 (start c)
-opened Short = last (start 255) (refused_line (header_number Short))
-opened Unmarked = last (start 255) (refused_line (header_number Unmarked))
-opened Foreign = last (start 255) (refused_line (header_number Foreign))
-opened Unknown = last (start 255) (refused_line (header_number Unknown))
+abbrev pub opened : Result Header Refusal → Stepped
+opened (Ok header) = told (first_line header.version header.config) 6 (start header.config)
+opened (Err refusal) = last (start 255) (refused_line (number_of refusal))
 
 unfoldable pub opening : List ℕ → Stepped
 opening f = opened (header_of lmf f)
@@ -63,11 +61,13 @@ abbrev pub framed : Lister → ℕ → Listened → Stepped
 framed l used m = told (line_of l.count m) used (record { channel = m.channel; count = counted l.count })
 
 -- a record
-abbrev pub found : Lister → List ℕ → Record → Stepped
-found l f (Frame used) = framed l used (listened l.channel (samples (nf l.channel.config) (take used f)))
-found l f End = last l (end_line l.count)
-found l f Cut = last l (refused_line (record_number Cut))
-found l f Astray = last l (refused_line (record_number Astray))
+abbrev pub standing : Lister → List ℕ → Record → Stepped
+standing l f (Frame used) = framed l used (listened l.channel (samples (nf l.channel.config) (take used f)))
+standing l f End = last l (end_line l.count)
+
+abbrev pub found : Lister → List ℕ → Result Record Refusal → Stepped
+found l f (Ok record_at) = standing l f record_at
+found l f (Err refusal) = last l (refused_line (number_of refusal))
 
 unfoldable pub step : Lister → List ℕ → Stepped
 step l f = found l f (record_of l.channel.config f)
@@ -81,9 +81,6 @@ written (suc most) s f = elim (eqb s.used 0) [
 ]
 
 -- how many whole frames a file holds
-abbrev pub whole_frames : Header → List ℕ → ℕ
-whole_frames (Good version c) f = length (contents c (drop 6 f)).frames
-whole_frames Short f = 0
-whole_frames Unmarked f = 0
-whole_frames Foreign f = 0
-whole_frames Unknown f = 0
+abbrev pub whole_frames : Result Header Refusal → List ℕ → ℕ
+whole_frames (Ok header) f = length (contents header.config (drop 6 f)).frames
+whole_frames (Err refusal) f = 0

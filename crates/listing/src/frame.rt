@@ -1,5 +1,5 @@
 // What a frame's line tells: flag and loudest band, and the channel after it.
-ghost use Rattle.std.specs.Prelude.{◌≡◌, T, pos, length, replicate};
+ghost use Rattle.std.specs.Prelude.{◌≡◌, T, length, replicate};
 ghost use Rattle.config.specs.Config.{valid, nf, nb};
 ghost use Rattle.frame_file.specs.File.{samples, frame_bytes};
 ghost use Rattle.listing.specs.Listing.{zeros, listened, ListenedIn};
@@ -12,34 +12,6 @@ pub struct Listened {
     pub flag: bool,
     pub loudest: Loudest,
     pub channel: Channel,
-}
-
-// Room for the lines of any configuration.
-fn lines() -> [f32; 480]
-    ensures { result ≡ zeros 480 }
-{
-    [0.0; 480]
-}
-
-// Room for the energies of any configuration.
-fn energies() -> [f32; 64]
-    ensures { result ≡ zeros 64 }
-{
-    [0.0; 64]
-}
-
-// Room for the peaks of any configuration, which nobody asks for here.
-fn peaks() -> [usize; 64]
-    ensures { result ≡ replicate 64 0 }
-{
-    [0usize; 64]
-}
-
-// Room for the samples of any configuration.
-fn silence() -> [i16; 480]
-    ensures { result ≡ replicate 480 (pos 0) }
-{
-    [0i16; 480]
 }
 
 // The lines of a frame, their measurement and the loudest of their bands, in the rooms lent.
@@ -55,14 +27,12 @@ fn listen_in(
 {
     let config = channel.config;
     let framed = channel.frame(input, lines);
-    let measured = measurement::measure(config, lines, energies, peaks);
-    let heard = loudest::loudest_band(config, energies);
-    let loudest = heard.loudest;
-    let next = framed.channel;
+    let flag = measurement::measure(config, lines, energies, peaks).unwrap_or(false);
+    let loudest = loudest::loudest_band(config, energies).unwrap_or(Loudest::Quiet);
     Listened {
-        flag: measured.flag,
+        flag,
         loudest,
-        channel: next,
+        channel: framed.channel,
     }
 }
 
@@ -74,9 +44,9 @@ fn listen(channel: Channel, input: &[i16]) -> Listened
     let config = channel.config;
     let n = config::nf(config);
     let b = config::nb(config);
-    let mut lines = lines();
-    let mut energies = energies();
-    let mut peaks = peaks();
+    let mut lines = [0.0; 480];
+    let mut energies = [0.0; 64];
+    let mut peaks = [0usize; 64];
     listen_in(
         channel,
         input,
@@ -92,7 +62,7 @@ pub fn listen_to(channel: Channel, bytes: &[u8]) -> Listened
     ensures { result ≡ listened channel (samples (nf channel.config) bytes.now) }
 {
     let n = config::nf(channel.config);
-    let mut samples = silence();
+    let mut samples = [0i16; 480];
     frame_file::decode(bytes, &mut samples[..n]);
     listen(channel, &samples[..n])
 }

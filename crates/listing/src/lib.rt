@@ -14,7 +14,7 @@ ghost use Rattle.listing.specs.Steps.{text, start, opening, counted, framed, ste
 mod frame; // frame.rt: a frame's flag and loudest band
 mod line; // line.rt: a line of text by value
 
-use frame_file::{Header, Record};
+use frame_file::Record;
 pub use line::Text;
 use loudest::Loudest;
 
@@ -79,9 +79,10 @@ fn frame_line(n: u64, flag: bool, loudest: Loudest) -> Text
 fn start(config: u8) -> Lister
     ensures { result ≡ start config }
 {
-    let cleared = analysis::clear(config);
-    let channel = cleared.channel;
-    Lister { channel, count: 0 }
+    Lister {
+        channel: analysis::clear(config).channel,
+        count: 0,
+    }
 }
 
 // One frame more; the count stays at its largest.
@@ -108,16 +109,13 @@ impl Lister {
         requires { T (valid self.channel.config) × (length bytes.now ≡ frame_bytes self.channel.config) }
         ensures { result ≡ framed self (length bytes.now) (listened self.channel (samples (nf self.channel.config) bytes.now)) }
     {
-        let channel = self.channel;
-        let measured = frame::listen_to(channel, bytes);
-        let loudest = measured.loudest;
-        let text = frame_line(self.count, measured.flag, loudest);
-        let next = measured.channel;
+        let measured = frame::listen_to(self.channel, bytes);
+        let text = frame_line(self.count, measured.flag, measured.loudest);
         Stepped {
             text,
             used: bytes.len(),
             lister: Lister {
-                channel: next,
+                channel: measured.channel,
                 count: one_more(self.count),
             },
         }
@@ -127,13 +125,10 @@ impl Lister {
     pub fn step(self, bytes: &[u8]) -> Stepped
         ensures { result ≡ step self bytes.now }
     {
-        let channel = self.channel;
-        let found = frame_file::read_record(channel.config, bytes);
-        match found {
-            Record::Frame(used) => self.frame(&bytes[..used]),
-            Record::End => self.last(end_line(self.count)),
-            Record::Cut => self.last(refused_line(frame_file::record_number(found))),
-            Record::Astray => self.last(refused_line(frame_file::record_number(found))),
+        match frame_file::read_record(self.channel.config, bytes) {
+            Ok(Record::Frame(used)) => self.frame(&bytes[..used]),
+            Ok(Record::End) => self.last(end_line(self.count)),
+            Err(refusal) => self.last(refused_line(refusal.number())),
         }
     }
 
@@ -141,8 +136,7 @@ impl Lister {
     pub fn wanted(self) -> usize
         ensures { result ≡ frame_bytes self.channel.config }
     {
-        let channel = self.channel;
-        2 * config::nf(channel.config)
+        2 * config::nf(self.channel.config)
     }
 }
 
@@ -150,13 +144,12 @@ impl Lister {
 pub fn open(file: &[u8]) -> Stepped
     ensures { result ≡ opening file.now }
 {
-    let found = frame_file::read_header(file);
-    let Header::Good(version, config) = found else {
-        return start(255).last(refused_line(frame_file::header_number(found)));
-    };
-    Stepped {
-        text: first_line(version, config),
-        used: 6,
-        lister: start(config),
+    match frame_file::read_header(file) {
+        Ok(header) => Stepped {
+            text: first_line(header.version, header.config),
+            used: 6,
+            lister: start(header.config),
+        },
+        Err(refusal) => start(255).last(refused_line(refusal.number())),
     }
 }

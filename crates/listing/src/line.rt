@@ -26,11 +26,7 @@ fn put(d: [u8; 64], at: usize, s: &[u8]) -> [u8; 64]
     ensures { result ≡ paste d at s.now (length s.now) }
 {
     let mut out = d;
-    let mut i = 0;
-    while i < s.len() {
-        out[at + i] = s[i];
-        i += 1;
-    }
+    out[at..at + s.len()].copy_from_slice(s);
     out
 }
 
@@ -40,12 +36,9 @@ impl Text {
         requires { self.len + length s.now ≤ 64 }
         ensures { result ≡ with self s.now }
     {
-        let at = self.len;
-        let d = self.bytes;
-        let bytes = put(d, at, s);
         Text {
-            bytes,
-            len: at + s.len(),
+            bytes: put(self.bytes, self.len, s),
+            len: self.len + s.len(),
         }
     }
 
@@ -71,7 +64,7 @@ impl Text {
     pub fn size(self) -> usize
         ensures { result ≡ min self.len 64 }
     {
-        if self.len < 64 { self.len } else { 64 }
+        self.len.min(64)
     }
 
     // Inner. The text's bytes into out from place `at` on; the place after them.
@@ -80,12 +73,7 @@ impl Text {
         ensures { (result ≡ at + min self.len 64) × (out.new ≡ paste out.old at self.bytes (min self.len 64)) }
     {
         let n = self.size();
-        let bytes = self.bytes;
-        let mut i = 0;
-        while i < n {
-            out[at + i] = bytes[i];
-            i += 1;
-        }
+        out[at..at + n].copy_from_slice(&self.bytes[..n]);
         at + n
     }
 }

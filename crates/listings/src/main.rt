@@ -39,19 +39,18 @@ fn next(file: &File, lister: Lister) -> Stepped {
     step(file, lister, &mut buf[..want])
 }
 
-// Line after line, to the last. A proved loop has to end, and nothing says that a file does: it counts its turns down.
+// Line after line, to the last. A proved loop has to end, and nothing says that a file does: its
+// turns are counted.
 fn list(rt: &HostRuntime, file: &File) {
     let mut now = open(file);
-    let mut turns = u64::MAX;
-    while turns > 0 && now.used > 0 {
-        let text = now.text;
-        put(rt, text);
-        let lister = now.lister;
-        now = next(file, lister);
-        turns -= 1;
+    for _ in 0..u64::MAX {
+        if now.used == 0 {
+            break;
+        }
+        put(rt, now.text);
+        now = next(file, now.lister);
     }
-    let text = now.text;
-    put(rt, text);
+    put(rt, now.text);
 }
 
 fn list_file(rt: &HostRuntime, path: &[u8]) {

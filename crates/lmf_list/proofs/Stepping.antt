@@ -7,10 +7,11 @@ use mathlib.Core.List.{List}
 use native.Mathlib.Omega.{arith}
 use lib.Dec.{eqb}
 use borrow.Author.Tests.{lt-ltb, ne_eqb, eq-eqb}
+use Rattle.std.specs.Prelude.{Result, Ok, Err}
+use Rattle.refusals.specs.declared.Refusal.{Refusal}
 use Rattle.frame_file.specs.declared.Header.{Header}
-use Rattle.frame_file.specs.declared.Header.TheVariants.{Good, Short, Unmarked, Foreign, Unknown}
 use Rattle.frame_file.specs.declared.Record.{Record}
-use Rattle.frame_file.specs.declared.Record.TheVariants.{Frame, End, Cut, Astray}
+use Rattle.frame_file.specs.declared.Record.TheVariants.{Frame, End}
 use Rattle.frame_file.specs.File.{lmf, header_of, record_of}
 use Rattle.listing.specs.declared.Lister.{Lister}
 use Rattle.listing.specs.declared.Stepped.{Stepped}
@@ -24,22 +25,18 @@ pub opens : (f : List ℕ) → listed (opening f) ≡ 0
 unfolding opening
 opens f = go (header_of lmf f)
   where
-    go : (h : Header) → listed (opened h) ≡ 0
-    go (Good version config) = refl
-    go Short = refl
-    go Unmarked = refl
-    go Foreign = refl
-    go Unknown = refl
+    go : (h : Result Header Refusal) → listed (opened h) ≡ 0
+    go (Ok header) = refl
+    go (Err refusal) = refl
 
 advances : (l : Lister) (f : List ℕ) → (listed (step l f) ≡ counted l.count) ⊎ (((step l f).used ≡ 0) × (listed (step l f) ≡ l.count))
 unfolding step
 advances l f = go (record_of l.channel.config f)
   where
-    go : (r : Record) → (listed (found l f r) ≡ counted l.count) ⊎ (((found l f r).used ≡ 0) × (listed (found l f r) ≡ l.count))
-    go (Frame used) = inl refl
-    go End = inr (refl, refl)
-    go Cut = inr (refl, refl)
-    go Astray = inr (refl, refl)
+    go : (r : Result Record Refusal) → (listed (found l f r) ≡ counted l.count) ⊎ (((found l f r).used ≡ 0) × (listed (found l f r) ≡ l.count))
+    go (Ok (Frame used)) = inl refl
+    go (Ok End) = inr (refl, refl)
+    go (Err refusal) = inr (refl, refl)
 
 -- what is left to be counted, twice, and one more after a step that was not the last
 abbrev pub to_go : Stepped → ℕ

@@ -1,2 +1,3 @@
 pub mod Products
 pub mod Rank
+pub mod Answers

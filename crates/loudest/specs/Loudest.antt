@@ -1,15 +1,15 @@
 -- The loudest band (document 01, module 7, ranked by document 02 §2): quiet, or the first band with the greatest energy times number of lines. Definitions only.
-use Rattle.std.specs.Prelude.{ℕ, ◌+◌, ◌-◌, Bool, false, cond, List, eqb, pos, length, get_or, Float}
+use Rattle.std.specs.Prelude.{ℕ, ◌+◌, ◌-◌, Bool, false, cond, List, eqb, pos, length, get_or, Float, Result, Ok, Err}
 use Rattle.std.proofs.Math.Option.{Option, some, none}
 use Rattle.std.specs.Float.{nan, inf, fin, binary32}
 use Rattle.std.specs.Float.Ieee.{mul, of_int}
 use Rattle.laws.specs.Lists.{tab, first}
 use Rattle.laws.specs.Greatest.{best}
 use Rattle.config.specs.Config.{edges}
-use Rattle.refusals.specs.Refusals.{accepted, judged}
+use Rattle.refusals.specs.declared.Refusal.{Refusal}
+use Rattle.refusals.specs.Refusals.{accepted, number_of, index_of, judged}
 use Rattle.loudest.specs.declared.Loudest.{Loudest}
 use Rattle.loudest.specs.declared.Loudest.TheVariants.{Quiet, Loud}
-use Rattle.loudest.specs.declared.Heard.{Heard}
 
 -- ---- what bands are ranked by
 -- the number of lines of band b, from its edges
@@ -40,6 +40,12 @@ unfoldable pub loudest : ℕ → List Float → Loudest
 loudest c l = let ps = products (edges c) l in cond (eqb (first silent l) (length l)) Quiet (loud ps (best ps (length l)))
 
 -- ---- the call: "1 is tested there before 5, now for exactly nb, and 7"
+-- what it gives: number and index, and the answer
+pub record Heard : Type 0 where
+  pub number : ℕ
+  pub index : ℕ
+  pub loudest : Loudest
+
 -- quiet beside a refusal
 abbrev pub refusal : ℕ → ℕ → Heard
 refusal number index = record { number = number; index = index; loudest = Quiet }
@@ -49,6 +55,11 @@ told answer = record { number = accepted; index = 0; loudest = answer }
 
 unfoldable pub heard : ℕ → List Float → Heard
 heard c l = judged refusal (told (loudest c l)) c l
+
+-- the code's answer, as the definition has it
+abbrev pub outcome : Result Loudest Refusal → Heard
+outcome (Ok answer) = told answer
+outcome (Err r) = refusal (number_of r) (index_of r)
 
 -- ---- the paper's number, index and values for each case of the answer
 pub record Paper : Type 0 where

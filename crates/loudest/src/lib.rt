@@ -7,20 +7,16 @@ ghost use Rattle.laws.specs.Lists.{first, Rising};
 ghost use Rattle.laws.specs.Passes.{passes7};
 ghost use Rattle.laws.specs.Greatest.{best};
 ghost use Rattle.config.specs.Config.{valid, nb};
-ghost use Rattle.loudest.specs.Loudest.{product, products, loudest, refusal, heard};
+ghost use Rattle.loudest.specs.Loudest.{product, products, loudest, heard, outcome};
 
+use refusals::Refusal;
+
+// An enum of its own, and no Option: a rule of the project, document 01's "Language forms by place".
 // Loud carries the band, and the product that it is ranked by.
 #[derive(Clone, Copy)]
 pub enum Loudest {
     Quiet,
     Loud(usize, f32),
-}
-
-#[derive(Clone, Copy)]
-pub struct Heard {
-    pub number: u8,
-    pub index: usize,
-    pub loudest: Loudest,
 }
 
 // What band b is ranked by: its energy times its number of lines.
@@ -39,14 +35,12 @@ fn scan(energies: &[f32], edges: &[usize]) -> usize
 {
     let mut band = 0;
     let mut greatest = product(energies, edges, 0);
-    let mut i = 0;
-    while i < energies.len() {
+    for i in 0..energies.len() {
         let own = product(energies, edges, i);
         if greatest < own {
             band = i;
             greatest = own;
         }
-        i += 1;
     }
     band
 }
@@ -57,8 +51,8 @@ fn answer(c: u8, energies: &[f32]) -> Loudest
     ensures { result ≡ loudest c energies.now }
 {
     let edges = config::edges(c);
-    let band = scan(energies, &edges);
-    let greatest = product(energies, &edges, band);
+    let band = scan(energies, edges);
+    let greatest = product(energies, edges, band);
     if 0.0 < greatest {
         Loudest::Loud(band, greatest)
     } else {
@@ -66,28 +60,10 @@ fn answer(c: u8, energies: &[f32]) -> Loudest
     }
 }
 
-fn refused(number: u8, index: usize) -> Heard
-    ensures { result ≡ refusal number index }
+// Entry. The loudest band of the energies of a configuration.
+pub fn loudest_band(config: u8, energies: &[f32]) -> Result<Loudest, Refusal>
+    ensures { outcome result ≡ heard config energies.now }
 {
-    Heard {
-        number,
-        index,
-        loudest: Loudest::Quiet,
-    }
-}
-
-// Entry. The loudest band of the energies of a configuration, which is quiet beside a refusal.
-pub fn loudest_band(config: u8, energies: &[f32]) -> Heard
-    ensures { result ≡ heard config energies.now }
-{
-    let v = refusals::on_energies(config, energies);
-    if v.number != refusals::ACCEPTED {
-        return refused(v.number, v.index);
-    }
-    let loudest = answer(config, energies);
-    Heard {
-        number: refusals::ACCEPTED,
-        index: 0,
-        loudest,
-    }
+    refusals::on_energies(config, energies)?;
+    Ok(answer(config, energies))
 }

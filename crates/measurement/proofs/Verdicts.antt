@@ -1,49 +1,34 @@
 -- What `measures` says, case by case, as the code's tests have it. Assumes nothing.
 use mathlib.Core.Path.{◌≡◌, refl, sym, ap, ◌∙◌}
-use mathlib.Core.Bool.{Bool, true, false, not}
+use mathlib.Core.Bool.{Bool, false, not}
 use mathlib.Core.List.{List}
 use Prim.Native.Nat.{ℕ, zero, suc}
 use lib.Dec.{T, eqb, eqb→eq}
 use lib.ListN.{length}
 use lib.Ieee.{Float}
-use borrow.Author.Tests.{not-true, not-false, eq-eqb, ne_eqb}
+use borrow.Author.Tests.{not-false, eq-eqb}
+use Rattle.std.specs.Prelude.{⊤, Result, Ok, Err}
 use Rattle.config.specs.Config.{valid, nf, nb}
 use Rattle.refusals.specs.declared.Verdict.{Verdict}
-use Rattle.refusals.specs.Refusals.{on_values}
+use Rattle.refusals.specs.declared.Refusal.{Refusal}
+use Rattle.refusals.specs.Refusals.{accepted, number_of, told, told_by, on_values}
 use Rattle.refusals.proofs.Verdicts.{went_on, by_values}
-use Rattle.measurement.specs.Measurement.{energies_of, peaks_of, flag_of, Lent, Given, number, verdict, refused_by, measured, measures}
+use Rattle.refusals.proofs.Verdicts as verdicts
+use Rattle.measurement.specs.Measurement.{energies_of, peaks_of, flag_of, Lent, Given, number, verdict, refused_by, measured, measures, outcome}
 
--- the verdict, from the tests one after the other; v is what the code's test of the configuration gave
-module _ (c : ℕ) (x : Lent) {v : Bool} (e : v ≡ valid c) where
-  abbrev Says : ℕ → ℕ → Type 0
-  Says n i = ◌≡◌ {A = Verdict} (record { number = n; index = i }) (verdict (number c x) x)
-
-  pub says_1 : not v ≡ true → Says 1 0
-  says_1 h = rw (sym e ∙ not-true v h)
-
-  module _ (h : not v ≡ false) where
-    ok : valid c ≡ true
-    ok = sym e ∙ not-false v h
-
-    pub says_3 : (length x.lines ≡ nf c → ⊥) → Says 3 0
-    says_3 a = rw (ok, ne_eqb _ _ a)
-
-    module _ (a : length x.lines ≡ nf c) where
-      pub says_5 : (length x.energies ≡ nb c → ⊥) → Says 5 0
-      says_5 b = rw (ok, eq-eqb _ _ a, ne_eqb _ _ b)
-
-      module _ (b : length x.energies ≡ nb c) where
-        pub says_5_too : (length x.peaks ≡ nb c → ⊥) → Says 5 0
-        says_5_too d = rw (ok, eq-eqb _ _ a, eq-eqb _ _ b, ne_eqb _ _ d)
-
-        pub says-rest : length x.peaks ≡ nb c → {w : Verdict} → w ≡ on_values x.lines → w ≡ verdict (number c x) x
-        says-rest d f = rw (ok, eq-eqb _ _ a, eq-eqb _ _ b, eq-eqb _ _ d) (f ∙ by_values x.lines)
+-- the verdict of a call whose lengths are right is that of its lines; v is what the code's test of the configuration gave
+module _ (c : ℕ) (x : Lent) {v : Bool} (e : v ≡ valid c) (h : not v ≡ false) (a : length x.lines ≡ nf c) (b : length x.energies ≡ nb c) where
+  pub says-rest : length x.peaks ≡ nb c → {w : Verdict} → w ≡ on_values x.lines → w ≡ verdict (number c x) x
+  says-rest d f = rw (sym e ∙ not-false v h, eq-eqb _ _ a, eq-eqb _ _ b, eq-eqb _ _ d) (f ∙ by_values x.lines)
 
 -- a refused call
-pub refused : (c : ℕ) (x : Lent) (v : Verdict) → v ≡ verdict (number c x) x → (v.number ≡ 0 → ⊥) → refused_by v.number v.index x ≡ measures c x
+pub refused : (c : ℕ) (x : Lent) (r : Refusal) → told_by {A = ⊤} (Err r) ≡ verdict (number c x) x → outcome (Err r) x.energies x.peaks ≡ measures c x
 unfolding measures
-refused c x v e h = ap (λ (w : Verdict). refused_by w.number w.index x) e ∙ go (number c x) (λ n. h (ap (λ (w : Verdict). w.number) e ∙ n))
+refused c x r e = ap (λ (w : Verdict). refused_by w.number w.index x) e ∙ go (number c x) (λ n. refusal (ap (λ (w : Verdict). w.number) e ∙ n))
   where
+    refusal : number_of r ≡ 0 → ⊥
+    refusal = verdicts.refused r
+
     go : (n : ℕ) → (n ≡ 0 → ⊥) → refused_by n (verdict n x).index x ≡ measured n c x
     go zero h = absurd (h refl)
     go (suc n) h = refl
@@ -64,13 +49,11 @@ passed c x e =
     record { is_valid = p.0; lines_is = eqb→eq _ _ q.0; energies_is = eqb→eq _ _ r.0; peaks_is = eqb→eq _ _ s.0 }
 
 -- a call that is not refused, and what it has made
-pub made : (c : ℕ) (x : Lent) (v : Verdict) (f : Bool) (es : List Float) (ps : List ℕ) → v ≡ verdict (number c x) x → v.number ≡ 0
-    → es ≡ energies_of c x.lines → ps ≡ peaks_of c x.lines → f ≡ flag_of c es → ◌≡◌ {A = Given} (record { number = 0; index = 0; flag = f; energies = es; peaks = ps }) (measures c x)
+pub made : (c : ℕ) (x : Lent) (f : Bool) (es : List Float) (ps : List ℕ) → told accepted ≡ verdict (number c x) x
+    → es ≡ energies_of c x.lines → ps ≡ peaks_of c x.lines → f ≡ flag_of c es → outcome (Ok f) es ps ≡ measures c x
 unfolding measures
-made c x v f es ps e z p t q =
-    let r : f ≡ flag_of c (energies_of c x.lines) = q ∙ ap (flag_of c) p in
-    let n : number c x ≡ 0 = sym (ap (λ (w : Verdict). w.number) e) ∙ z in
-    (λ i. record { number = 0; index = 0; flag = r i; energies = p i; peaks = t i }) ∙ ap (λ (m : ℕ). measured m c x) (sym n)
+made c x f es ps e p t q =
+    (λ i. outcome (Ok ((q ∙ ap (flag_of c) p) i)) (p i) (t i)) ∙ ap (λ (w : Verdict). measured w.number c x) e
 
 -- a call by its number
 pub tells : (c : ℕ) (x : Lent) → (measures c x).number ≡ number c x
@@ -84,3 +67,14 @@ tells c x = go (number c x)
 pub by_number : (c : ℕ) (x : Lent) (n : ℕ) → number c x ≡ n → measures c x ≡ measured n c x
 unfolding measures
 by_number c x n e = ap (λ (m : ℕ). measured m c x) e
+
+-- one answer of the code has an outcome
+abbrev lone : Result ⊤ Refusal → Result Bool Refusal
+lone (Ok a) = Ok false
+lone (Err r) = Err r
+
+pub once : (r s : Result Bool Refusal) (es es' : List Float) (ps ps' : List ℕ) → outcome r es ps ≡ outcome s es' ps' → r ≡ s
+once (Ok a) (Ok b) es es' ps ps' e = ap (λ (x : Given). Ok x.flag) e
+once (Ok a) (Err r) es es' ps ps' e = absurd (verdicts.refused r (sym (ap (λ (x : Given). x.number) e)))
+once (Err r) (Ok b) es es' ps ps' e = absurd (verdicts.refused r (ap (λ (x : Given). x.number) e))
+once (Err r) (Err s) es es' ps ps' e = ap lone (verdicts.told-injective (Err r) (Err s) (ap (λ (x : Given). record { number = x.number; index = x.index }) e))

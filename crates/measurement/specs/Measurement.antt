@@ -1,14 +1,14 @@
 -- The measurement of lines: the second half of an analysis frame (`ModDiscreteCosTrans::run` of the encoder), the peaks beside it (document 02 §12), and the call
 -- `measure` (document 02 §5). Definitions only.
-use Rattle.std.specs.Prelude.{Bool, false, not, cond, List, ℕ, zero, suc, ◌-◌, leb, ltb, eqb, length, Float}
+use Rattle.std.specs.Prelude.{Bool, false, not, cond, List, ℕ, zero, suc, ◌-◌, leb, ltb, eqb, length, Float, Result, Ok, Err}
 use Rattle.laws.specs.Lists.{first}
 use Rattle.laws.specs.Passes.{passes6}
 use Rattle.config.specs.Config.{valid, nf, nb, rate, upper, edges}
 use Rattle.refusals.specs.Refusals as refusals
 use Rattle.refusals.specs.declared.Verdict.{Verdict}
+use Rattle.refusals.specs.declared.Refusal.{Refusal}
 use Rattle.measurement_steps.specs.Energy.{energies, exceeds}
 use Rattle.measurement_steps.specs.Peak.{peaks}
-use Rattle.measurement.specs.declared.Measured.{Measured}
 
 -- ---- THE DEFINITION, refusals aside
 -- `apply_energy_estimation`
@@ -72,6 +72,11 @@ measures c x = measured (number c x) c x
 abbrev pub lent : List Float → List Float → List ℕ → Lent
 lent l e p = record { lines = l; energies = e; peaks = p }
 
+-- the flag of an answer, which a refusal does not set
+abbrev pub flagged : Result Bool Refusal → Bool
+flagged (Ok flag) = flag
+flagged (Err r) = false
+
 -- a call's return and the slices of energies and peaks at its end, as the definition has them
-abbrev pub outcome : Measured → List Float → List ℕ → Given
-outcome r e p = record { number = r.number; index = r.index; flag = r.flag; energies = e; peaks = p }
+abbrev pub outcome : Result Bool Refusal → List Float → List ℕ → Given
+outcome r e p = let v = refusals.told_by r in record { number = v.number; index = v.index; flag = flagged r; energies = e; peaks = p }

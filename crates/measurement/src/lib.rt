@@ -6,17 +6,10 @@
 
 ghost use Rattle.std.specs.Prelude.{◌≡◌, T, length};
 ghost use Rattle.config.specs.Config.{valid, nf, nb};
+ghost use Rattle.refusals.specs.Refusals.{told_by};
 ghost use Rattle.measurement.specs.Measurement.{energies_of, peaks_of, flag_of, number, verdict, measures, lent, outcome};
 
-use refusals::Verdict;
-
-#[repr(C)]
-#[derive(Clone, Copy)]
-pub struct Measured {
-    pub number: u8,
-    pub index: usize,
-    pub flag: bool,
-}
+use refusals::Refusal;
 
 // Whether the energies lie near the Nyquist frequency. Never at 48 kHz.
 fn is_near_nyquist(c: u8, energies: &[f32]) -> bool
@@ -39,45 +32,35 @@ fn apply_energy_estimation(c: u8, lines: &[f32], energies: &mut [f32], peaks: &m
         return;
     }
     let edges = config::edges(c);
-    measurement_steps::apply_energy_estimation(lines, &edges, energies, peaks);
+    measurement_steps::apply_energy_estimation(lines, edges, energies, peaks);
 }
 
-// The refusal of a call, in the order of document 01's table.
-fn refusal(c: u8, lines: &[f32], energies: &[f32], peaks: &[usize]) -> Verdict
-    ensures { result ≡ verdict (number c (lent lines.now energies.now peaks.now)) (lent lines.now energies.now peaks.now) }
+// The refusals, in the order of document 01's table.
+fn judge(c: u8, lines: &[f32], energies: &[f32], peaks: &[usize]) -> Result<(), Refusal>
+    ensures { told_by result ≡ verdict (number c (lent lines.now energies.now peaks.now)) (lent lines.now energies.now peaks.now) }
 {
     if !config::valid(c) {
-        return Verdict::told(refusals::BAD_CONFIG);
+        return Err(Refusal::BadConfig);
     }
     if lines.len() != config::nf(c) {
-        return Verdict::told(refusals::BAD_INPUT);
+        return Err(Refusal::BadInput);
     }
-    if energies.len() != config::nb(c) {
-        return Verdict::told(refusals::BAD_ENERGIES);
-    }
-    if peaks.len() != config::nb(c) {
-        return Verdict::told(refusals::BAD_ENERGIES);
+    if energies.len() != config::nb(c) || peaks.len() != config::nb(c) {
+        return Err(Refusal::BadEnergies);
     }
     refusals::on_values(lines)
 }
 
 // Entry. The energies and peaks of nf lines, and their flag. A refusal writes nothing.
-pub fn measure(config: u8, lines: &[f32], energies: &mut [f32], peaks: &mut [usize]) -> Measured
+pub fn measure(
+    config: u8,
+    lines: &[f32],
+    energies: &mut [f32],
+    peaks: &mut [usize],
+) -> Result<bool, Refusal>
     ensures { outcome result energies.new peaks.new ≡ measures config (lent lines.now energies.old peaks.old) }
 {
-    let v = refusal(config, lines, energies, peaks);
-    if v.number != refusals::ACCEPTED {
-        return Measured {
-            number: v.number,
-            index: v.index,
-            flag: false,
-        };
-    }
+    judge(config, lines, energies, peaks)?;
     apply_energy_estimation(config, lines, energies, peaks);
-    let flag = is_near_nyquist(config, energies);
-    Measured {
-        number: refusals::ACCEPTED,
-        index: 0,
-        flag,
-    }
+    Ok(is_near_nyquist(config, energies))
 }

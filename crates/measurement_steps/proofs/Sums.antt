@@ -4,6 +4,7 @@ use mathlib.Core.List.{List, [], ◌∷◌, ◌++◌}
 use Prim.Native.Nat.{ℕ, ◌+◌, ◌≤◌, ◌<◌}
 use native.Mathlib.Nat.{add-zero}
 use native.Mathlib.Omega.{arith}
+use Rattle.std.specs.Prelude.{fold}
 use lib.IntN.{pos}
 use lib.ListN.{length, get_or, take, drop, length-drop}
 use lib.Seq.{take-add, take-length, get_or-drop}
@@ -22,6 +23,11 @@ stretch n i xs h = take-tab n (drop i xs) nan (omega (arith, length-drop i xs)) 
 pub sum_on : (f : Float → Float) (acc : Float) (xs ys : List Float) → sum_of f acc (xs ++ ys) ≡ sum_of f (sum_of f acc xs) ys
 sum_on f acc [] ys = refl
 sum_on f acc (x ∷ xs) ys = sum_on f (add binary32 acc (f x)) xs ys
+
+-- the library's word for it, where the terms stand as they are
+pub fold_sums : (acc : Float) (xs : List Float) → fold (add binary32) acc xs ≡ sum_of (λ x. x) acc xs
+fold_sums acc [] = refl
+fold_sums acc (x ∷ xs) = fold_sums (add binary32 acc x) xs
 
 -- s is the sum of the first i terms
 abbrev pub Summed : (Float → Float) → Float → List Float → ℕ → Float → Type 0

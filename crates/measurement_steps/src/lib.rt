@@ -1,6 +1,6 @@
 // The steps of a measurement: the energies and peaks of bands, and what the near-Nyquist flag compares. They know no configuration.
 // Ported from src/encoder/modified_dct.rs of lc3-codec 0.2.0, and changed: a function for each step, lengths and tables as arguments,
-// counted loops in place of iterators, and bands of few lines by themselves.
+// and bands of few lines by themselves.
 
 #![tactic(auto)]
 
@@ -55,9 +55,9 @@ fn higher(b: Reading, i: usize, product: f32) -> Reading
 {
     if b.greatest < product {
         Reading {
-            energy: b.energy,
             peak: i,
             greatest: product,
+            ..b
         }
     } else {
         b
@@ -72,26 +72,21 @@ fn more(lines: &[f32], i: usize, width: f32, b: Reading) -> Reading
     let p = square(lines, i);
     let summed = Reading {
         energy: b.energy + p / width,
-        peak: b.peak,
-        greatest: b.greatest,
+        ..b
     };
     higher(summed, i, p)
 }
 
-// Two lines more.
-fn two(lines: &[f32], i: usize, width: f32, b: Reading) -> Reading
-    requires { (i + 2 ≤ length lines.now) × (b ≡ up_to width lines.now i) }
-    ensures { result ≡ up_to width lines.now (i + 2) }
+// N lines more, each of which the compiler sees.
+fn several<const N: usize>(lines: &[f32], i: usize, width: f32, b: Reading) -> Reading
+    requires { (i + N ≤ length lines.now) × (b ≡ up_to width lines.now i) }
+    ensures { result ≡ up_to width lines.now (i + N) }
 {
-    more(lines, i + 1, width, more(lines, i, width, b))
-}
-
-// Three lines more.
-fn three(lines: &[f32], i: usize, width: f32, b: Reading) -> Reading
-    requires { (i + 3 ≤ length lines.now) × (b ≡ up_to width lines.now i) }
-    ensures { result ≡ up_to width lines.now (i + 3) }
-{
-    more(lines, i + 2, width, two(lines, i, width, b))
+    let mut b = b;
+    for k in i..i + N {
+        b = more(lines, k, width, b);
+    }
+    b
 }
 
 // Four lines more. Their products are worked out first, so that the compiler divides several at once.
@@ -105,8 +100,7 @@ fn four(lines: &[f32], i: usize, width: f32, b: Reading) -> Reading
     let s = square(lines, i + 3);
     let summed = Reading {
         energy: b.energy + p / width + q / width + r / width + s / width,
-        peak: b.peak,
-        greatest: b.greatest,
+        ..b
     };
     let half = higher(higher(summed, i, p), i + 1, q);
     higher(higher(half, i + 2, r), i + 3, s)
@@ -119,8 +113,8 @@ fn rest(lines: &[f32], i: usize, width: f32, b: Reading) -> Reading
 {
     match lines.len() - i {
         1 => more(lines, i, width, b),
-        2 => two(lines, i, width, b),
-        3 => three(lines, i, width, b),
+        2 => several::<2>(lines, i, width, b),
+        3 => several::<3>(lines, i, width, b),
         _ => b,
     }
 }
@@ -139,7 +133,8 @@ fn many(lines: &[f32]) -> Reading
     rest(lines, n / 4 * 4, width, b)
 }
 
-// One band, from its lines. The bands of few lines, which are many, are spared the loop.
+// One band, from its lines. The bands of few lines, which are many, are spared the loop. One plain loop over the lines in place of this, `four` and `many` was
+// tried, in a sketch: it takes 583 instructions a measurement more at configuration 3 (16 %), and 390 more at 19 (24 %).
 fn measured(lines: &[f32]) -> Reading
     requires { (0 < length lines.now) × (length lines.now ≤ 480) }
     ensures { result ≡ whole lines.now }
@@ -147,12 +142,12 @@ fn measured(lines: &[f32]) -> Reading
     let none = start(lines);
     match lines.len() {
         1 => more(lines, 0, 1.0, none),
-        2 => two(lines, 0, 2.0, none),
-        3 => three(lines, 0, 3.0, none),
+        2 => several::<2>(lines, 0, 2.0, none),
+        3 => several::<3>(lines, 0, 3.0, none),
         4 => four(lines, 0, 4.0, none),
         5 => more(lines, 4, 5.0, four(lines, 0, 5.0, none)),
-        6 => two(lines, 4, 6.0, four(lines, 0, 6.0, none)),
-        7 => three(lines, 4, 7.0, four(lines, 0, 7.0, none)),
+        6 => several::<2>(lines, 4, 6.0, four(lines, 0, 6.0, none)),
+        7 => several::<3>(lines, 4, 7.0, four(lines, 0, 7.0, none)),
         8 => four(lines, 4, 8.0, four(lines, 0, 8.0, none)),
         9 => {
             let eight = four(lines, 4, 9.0, four(lines, 0, 9.0, none));
@@ -197,15 +192,13 @@ fn singles(lines: &[f32], edges: &[usize], out: &mut [f32], places: &mut [usize]
     ensures bands { (out.new ≡ begun (4 * result) (λ b. energy (band_of edges.now lines.now b)) out.old)
         × (places.new ≡ begun (4 * result) (peak_of edges.now lines.now) places.old) }
 {
-    let mut q = 0;
-    while q < out.len() / 4 {
+    for q in 0..out.len() / 4 {
         if !apart(edges, 4 * q) {
             return q;
         }
         single(lines, edges[4 * q], out, places, 4 * q);
-        q += 1;
     }
-    q
+    out.len() / 4
 }
 
 // Band b: its energy, and its peak from line 0 of the frame.
@@ -217,9 +210,8 @@ fn band(lines: &[f32], edges: &[usize], b: usize) -> Reading
     let to = edges[b + 1];
     let own = measured(&lines[from..to]);
     Reading {
-        energy: own.energy,
         peak: from + own.peak,
-        greatest: own.greatest,
+        ..own
     }
 }
 
@@ -234,12 +226,10 @@ pub fn apply_energy_estimation(
     ensures { (out.new ≡ energies (length out.old) edges.now lines.now)
         × (places.new ≡ peaks (length out.old) edges.now lines.now) }
 {
-    let mut b = 4 * singles(lines, edges, out, places);
-    while b < out.len() {
+    for b in 4 * singles(lines, edges, out, places)..out.len() {
         let own = band(lines, edges, b);
         out[b] = own.energy;
         places[b] = own.peak;
-        b += 1;
     }
 }
 
@@ -249,11 +239,9 @@ pub fn ones(lines: &[f32], out: &mut [f32], places: &mut [usize])
     ensures { (out.new ≡ tab (length out.old) (λ b. energy (take 1 (drop b lines.now))))
         × (places.new ≡ tab (length out.old) (λ b. b)) }
 {
-    let mut b = 0;
-    while b < out.len() {
+    for b in 0..out.len() {
         out[b] = one(lines, b);
         places[b] = b;
-        b += 1;
     }
 }
 
@@ -261,13 +249,7 @@ pub fn ones(lines: &[f32], out: &mut [f32], places: &mut [usize])
 pub fn total(es: &[f32]) -> f32
     ensures { result ≡ total es.now }
 {
-    let mut sum = 0.0f32;
-    let mut i = 0;
-    while i < es.len() {
-        sum = sum + es[i];
-        i += 1;
-    }
-    sum
+    es.iter().fold(0.0, |sum, x| sum + *x)
 }
 
 // Inner. Whether the bands from split on exceed 30 times those before it, strictly.
@@ -275,7 +257,6 @@ pub fn exceeds(es: &[f32], split: usize) -> bool
     requires { split ≤ length es.now }
     ensures { result ≡ exceeds split es.now }
 {
-    let lower = total(&es[..split]);
-    let upper = total(&es[split..]);
-    upper > 30.0 * lower
+    let (lower, upper) = es.split_at(split);
+    total(upper) > 30.0 * total(lower)
 }

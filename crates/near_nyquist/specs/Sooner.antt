@@ -1,12 +1,13 @@
 -- The near-Nyquist flag, sooner (document 02 §7): "a question over energies and a configuration", which stops at the first upper band that settles it. Definitions only.
-use Rattle.std.specs.Prelude.{ℕ, ◌+◌, ◌-◌, Bool, true, false, not, cond, List, ltb, leb, length, take, drop, Float}
+use Rattle.std.specs.Prelude.{ℕ, ◌+◌, ◌-◌, Bool, true, false, not, cond, List, ltb, leb, length, take, drop, Float, Result, Ok, Err}
 use Rattle.std.specs.Float.{binary32}
 use Rattle.std.specs.Float.Ieee.{of_bits, mul, lt}
 use Rattle.laws.specs.Lists.{tab, first}
 use Rattle.config.specs.Config.{nb, rate, upper}
-use Rattle.refusals.specs.Refusals.{accepted, judged}
+use Rattle.refusals.specs.declared.Refusal.{Refusal}
+use Rattle.refusals.specs.Refusals.{accepted, number_of, index_of, judged}
 use Rattle.measurement_steps.specs.Energy.{total}
-use Rattle.near_nyquist.specs.declared.Asked.{Asked}
+use Rattle.near_nyquist.specs.declared.Sooner.{Sooner}
 
 -- ---- the band that it stops at
 -- the running sums of energies: from 0.0 in their order, after each addition
@@ -22,6 +23,13 @@ unfoldable pub stop : ℕ → List Float → ℕ
 stop split es = split + first (λ sum. not (lt (bound split es) sum)) (running (drop split es))
 
 -- ---- the answer
+-- what a question gives: number and index, the answer, and how many bands were read for it
+pub record Asked : Type 0 where
+  pub number : ℕ
+  pub index : ℕ
+  pub answer : Bool
+  pub read : ℕ
+
 abbrev pub told : Bool → ℕ → Asked
 told answer read = record { number = accepted; index = 0; answer = answer; read = read }
 
@@ -40,6 +48,11 @@ refusal number index = record { number = number; index = index; answer = false; 
 
 unfoldable pub asked : ℕ → List Float → Asked
 asked c es = judged refusal (answer c es) c es
+
+-- the code's answer, as the definition has it
+abbrev pub outcome : Result Sooner Refusal → Asked
+outcome (Ok sooner) = told sooner.answer sooner.read
+outcome (Err r) = refusal (number_of r) (index_of r)
 
 -- ---- for the promises
 -- the running sum of the upper bands with band b as the last

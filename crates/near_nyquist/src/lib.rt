@@ -6,14 +6,13 @@ ghost use Rattle.std.specs.Prelude.{◌≡◌, not, ◌≤◌, T, length};
 ghost use Rattle.std.specs.Float.Ieee.{lt};
 ghost use Rattle.laws.specs.Lists.{first};
 ghost use Rattle.config.specs.Config.{valid, nb};
-ghost use Rattle.near_nyquist.specs.Sooner.{running, stop, told, refusal, answer, asked};
+ghost use Rattle.near_nyquist.specs.Sooner.{running, stop, told, answer, asked, outcome};
+
+use refusals::Refusal;
 
 // The answer, and how many bands were read for it.
-#[repr(C)]
 #[derive(Clone, Copy)]
-pub struct Asked {
-    pub number: u8,
-    pub index: usize,
+pub struct Sooner {
     pub answer: bool,
     pub read: usize,
 }
@@ -23,15 +22,13 @@ fn first_above(energies: &[f32], bound: f32) -> usize
     ensures { result ≡ first (λ sum. not (lt bound sum)) (running energies.now) }
 {
     let mut sum = 0.0f32;
-    let mut i = 0;
-    while i < energies.len() {
-        sum = sum + energies[i];
+    for (i, energy) in energies.iter().enumerate() {
+        sum += *energy;
         if sum > bound {
             return i;
         }
-        i += 1;
     }
-    i
+    energies.len()
 }
 
 // The band that settles the flag: the first from split on at which their sum exceeds 30 times that of the bands before split; their number where none does.
@@ -39,55 +36,34 @@ fn stop(energies: &[f32], split: usize) -> usize
     requires { split ≤ length energies.now }
     ensures { result ≡ stop split energies.now }
 {
-    let lower = measurement_steps::total(&energies[..split]);
-    split + first_above(&energies[split..], 30.0 * lower)
-}
-
-fn told(answer: bool, read: usize) -> Asked
-    ensures { result ≡ told answer read }
-{
-    Asked {
-        number: refusals::ACCEPTED,
-        index: 0,
-        answer,
-        read,
-    }
-}
-
-fn refused(number: u8, index: usize) -> Asked
-    ensures { result ≡ refusal number index }
-{
-    Asked {
-        number,
-        index,
-        answer: false,
-        read: 0,
-    }
+    let (lower, upper) = energies.split_at(split);
+    split + first_above(upper, 30.0 * measurement_steps::total(lower))
 }
 
 // The answer on energies that pass 7. At 48 kHz no band is read.
-fn answer(c: u8, energies: &[f32]) -> Asked
+fn answer(c: u8, energies: &[f32]) -> Sooner
     requires { T (valid c) × (length energies.now ≡ nb c) }
-    ensures { result ≡ answer c energies.now }
+    ensures { told result.answer result.read ≡ answer c energies.now }
 {
     if 32000 < config::rate(c) {
-        return told(false, 0);
+        return Sooner {
+            answer: false,
+            read: 0,
+        };
     }
     let bands = energies.len();
     let band = stop(energies, bands - config::upper(c));
-    if band < bands {
-        return told(true, band + 1);
+    let answer = band < bands;
+    Sooner {
+        answer,
+        read: if answer { band + 1 } else { bands },
     }
-    told(false, bands)
 }
 
-// Entry. Whether the energies of a configuration lie near the Nyquist frequency: no, and no band read, beside a refusal.
-pub fn near_nyquist(config: u8, energies: &[f32]) -> Asked
-    ensures { result ≡ asked config energies.now }
+// Entry. Whether the energies of a configuration lie near the Nyquist frequency.
+pub fn near_nyquist(config: u8, energies: &[f32]) -> Result<Sooner, Refusal>
+    ensures { outcome result ≡ asked config energies.now }
 {
-    let v = refusals::on_energies(config, energies);
-    if v.number != refusals::ACCEPTED {
-        return refused(v.number, v.index);
-    }
-    answer(config, energies)
+    refusals::on_energies(config, energies)?;
+    Ok(answer(config, energies))
 }

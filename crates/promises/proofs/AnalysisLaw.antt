@@ -16,9 +16,8 @@ use Rattle.config.proofs.Sound.{sound}
 use Rattle.analysis_steps.proofs.Buffers.{step_of, past_of-step}
 use Rattle.refusals.proofs.Clears.{clearing-map}
 use Rattle.analysis.specs.declared.Channel.{Channel}
-use Rattle.analysis.specs.declared.Cleared.{Cleared}
 use Rattle.analysis_lines.specs.Lines.{time_buffer, mdct, lines_of}
-use Rattle.analysis.specs.Analysis.{Lent, kept_of, silent, cleared_as, cleared, framed, frames}
+use Rattle.analysis.specs.Analysis.{Cleared, Lent, kept_of, silent, cleared_as, cleared, framed, frames}
 use Rattle.promises.specs.Sequence.{Demand3}
 use Rattle.promises.specs.AnalysisChannel.{previous, buffer, given, analysis}
 use Rattle.promises.proofs.Zeros.{take-replicate, drop-replicate}

@@ -11,7 +11,7 @@ use lib.Dec.{T, eqb, ltb, ltb→lt, nltb→le, le→leb, lit<, lit≤}
 use lib.ListN.{length, get_or, take, drop, replicate, length-replicate}
 use lib.Ieee.{Float, nan, inf, fin, up, down}
 use lib.Ieee.Bits.{is_true}
-use borrow.Author.Tests.{eq-eqb}
+use borrow.Author.Tests.{eq-eqb, le-ltb}
 use Rattle.laws.specs.Lists.{first}
 use Rattle.laws.specs.Numbers.{zero32}
 use Rattle.laws.specs.Passes.{passes6, passes7}
@@ -22,8 +22,7 @@ use Rattle.analysis_steps.specs.Buffer.{past_of, buffer_step, buffer_of}
 use Rattle.measurement_steps.specs.Energy.{energies}
 use Rattle.analysis_lines.specs.Lines.{time_buffer, lines_of}
 use Rattle.analysis.specs.declared.Channel.{Channel}
-use Rattle.refusals.specs.Refusals.{clearing}
-use Rattle.refusals.proofs.Verdicts.{values_pass}
+use Rattle.refusals.specs.Refusals.{clearing, told, on_values}
 use Rattle.analysis.specs.Analysis.{Lent, Given, kept_of, channel_past, cleared_as, cleared, number, framed, frames, lent}
 use Rattle.measurement.specs.Measurement as measurement
 use Rattle.measurement.specs.Measurement.{energies_of, measures}
@@ -33,7 +32,9 @@ use Rattle.synthesis.specs.declared.Channel as synthesis_channel
 use Rattle.synthesis.specs.Synthesis as synthesis_calls
 use Rattle.synthesis.proofs.Frames as synthesis_frames
 use Rattle.frame_file.specs.declared.Record.{Record}
-use Rattle.frame_file.specs.declared.Record.TheVariants.{Frame, End, Cut, Astray}
+use Rattle.frame_file.specs.declared.Record.TheVariants.{Frame, End}
+use Rattle.std.specs.Prelude.{Result, Ok, Err}
+use Rattle.refusals.specs.declared.Refusal.{Refusal}
 use Rattle.frame_file.specs.File.{short_at, signed, samples, record_of, Contents, ended, more, reading, contents}
 use Rattle.listing.specs.Listing.{zeros as zeros32}
 use Rattle.loudest.specs.Loudest.{heard, paper}
@@ -147,12 +148,15 @@ unfolding reading
 whole-frames zero c f = within.none
 whole-frames (suc most) c f = go (record_of c f) (whole-frames most c)
   where
-    go : (r : Record) → ((g : List ℕ) → Each (Whole c) (reading most c g).frames)
-        → Each (Whole c) (elim r as (λ q. Contents) [ Frame used ↦ more (samples (nf c) (take used f)) (reading most c (drop used f)) | End ↦ ended End | Cut ↦ ended Cut | Astray ↦ ended Astray ]).frames
-    go (Frame used) rest = within.also (decoded c (take used f)) (rest (drop used f))
-    go End rest = within.none
-    go Cut rest = within.none
-    go Astray rest = within.none
+    go : (r : Result Record Refusal) → ((g : List ℕ) → Each (Whole c) (reading most c g).frames)
+        → Each (Whole c)
+        (elim r as (λ q. Contents) [
+          | Ok found ↦ elim found as (λ q. Contents) [ Frame used ↦ more (samples (nf c) (take used f)) (reading most c (drop used f)) | End ↦ ended (Ok End) ]
+          | Err refusal ↦ ended (Err refusal)
+        ]).frames
+    go (Ok (Frame used)) rest = within.also (decoded c (take used f)) (rest (drop used f))
+    go (Ok End) rest = within.none
+    go (Err refusal) rest = within.none
 
 -- what the listing's calls are lent for a frame
 abbrev lends : Channel → List ℤ → Lent
@@ -165,7 +169,11 @@ takes : (a : Channel) → T (valid a.config) → (x : List ℤ) → length x ≡
 unfolding frames
 takes a v x e =
     let c = a.config in
-    ap (λ (n : ℕ). framed n a (lends a x)) (sym (says_0 c (lends a x) refl (ap not (is_true (valid c) v)) e (length-replicate (nf c) zero32)))
+    ap (λ (n : ℕ). framed n a (lends a x)) (sym (says_0 c (lends a x) (is_true (valid c) v) e (length-replicate (nf c) zero32)))
+
+values_pass : (x : List Float) → length x ≤ first passes6 x → told 0 ≡ on_values x
+unfolding on_values
+values_pass x h = rw (le-ltb (first passes6 x) (length x) h)
 
 measure_takes : (a : Channel) → T (valid a.config) → Held a → (x : List ℤ) → Each Sample x → measures a.config (next a x) ≡ measurement.measured 0 a.config (next a x)
 unfolding measures lines_of

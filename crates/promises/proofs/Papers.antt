@@ -58,7 +58,7 @@ version : (b : List ℕ) → short (drop 3 b) ≡ short_at b 3
 version b = rw (get_or-drop 3 b 0 0, get_or-drop 3 b 1 0)
 
 pub papers : Papers
-unfolding heard loudest header_of record_of log.header_of log.call_taken log.fields log.field_taken log.field_of log.rows
+unfolding heard loudest header_of record_of log.header_of log.call_taken log.fields log.field_taken log.fields_of log.rows
 papers =
     record {
       no_config = λ c l v. rw (lt-leb c largest v);

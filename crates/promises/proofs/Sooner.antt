@@ -21,8 +21,7 @@ use Rattle.measurement_steps.specs.Energy.{energies, total}
 use Rattle.measurement.specs.Measurement.{energies_of, flag_of}
 use Rattle.bounds.specs.Within.{Each}
 use Rattle.bounds.proofs.Lists.{each_at}
-use Rattle.near_nyquist.specs.declared.Asked.{Asked}
-use Rattle.near_nyquist.specs.Sooner.{running, stop, told, up_to, answer, asked}
+use Rattle.near_nyquist.specs.Sooner.{Asked, running, stop, told, up_to, answer, asked}
 use Rattle.near_nyquist.proofs.Sums.{stop-from, over, not-before, as_flagged}
 use Rattle.promises.specs.Sooner.{split, Keeps, Passed, Stopped, Sooner}
 use Rattle.promises.proofs.NoOverflow.{passing_7}

@@ -16,11 +16,10 @@ use Rattle.config.specs.Config.{valid, nf, z, ne}
 use Rattle.config.proofs.Sound.{sound}
 use Rattle.refusals.proofs.Clears.{clearing-map}
 use Rattle.synthesis.specs.declared.Channel.{Channel}
-use Rattle.synthesis.specs.declared.Cleared.{Cleared}
 use Rattle.laws.specs.Numbers.{zero32}
 use Rattle.synthesis.proofs.Next.{length-memory_of, last-samples}
 use Rattle.synthesis_samples.specs.Samples.{places_of, samples_of, memory_of}
-use Rattle.synthesis.specs.Synthesis.{Lent, Given, kept_of, silent, cleared_as, cleared, framed, frames}
+use Rattle.synthesis.specs.Synthesis.{Cleared, Lent, Given, kept_of, silent, cleared_as, cleared, framed, frames}
 use Rattle.promises.specs.Sequence.{accepts}
 use Rattle.promises.specs.SynthesisChannel.{memory, synthesis, last, SynthesisDemand3}
 use Rattle.promises.proofs.Zeros.{take-replicate}

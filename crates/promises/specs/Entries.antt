@@ -1,13 +1,14 @@
 -- What the checker makes of each entry's own clauses in src/: `F.clauses`, and `F.ended` of its signature. A row for each entry says that it asks nothing of its
 -- caller and leaves one answer only; rows of `Cited` say that the clause is the equation with the very definition that the demands speak of. A weaker `ensures`, or
 -- a `requires`, in a crate's src/ breaks the row's proof here. Definitions only.
-use Rattle.std.specs.Prelude.{◌≡◌, List, ℕ}
+use Rattle.std.specs.Prelude.{◌≡◌, List, [], ℕ, Float}
 use base.Logic.{SProp, ent, emp}
 use prog.Memory.{Memory}
 use prog.Routine.{Routine}
 use types.Logic.{Logic}
 use contract.Lifetimes.{Lfts}
 use contract.Monad.{Fun, conj, fact}
+use denote.RattleType.{RattleType}
 use denote.Triple.Entry.{Args, Res}
 use denote.Triple.Clauses.{Ended, Clauses, Lasts, at_exit}
 use borrow.Fn.World.{World, Pr}
@@ -16,10 +17,10 @@ use Rattle.laws.specs.contracts.passes_7
 use Rattle.laws.specs.contracts.first_failing_6
 use Rattle.laws.specs.contracts.first_failing_7
 use Rattle.complex.specs.contracts.Complex.new
-use Rattle.complex.specs.contracts.Complex.add
-use Rattle.complex.specs.contracts.Complex.sub
-use Rattle.complex.specs.contracts.Complex.mul
 use Rattle.complex.specs.contracts.Complex.scaled
+use Rattle.complex.specs.contracts.ComplexAdd.add
+use Rattle.complex.specs.contracts.ComplexSub.sub
+use Rattle.complex.specs.contracts.ComplexMul.mul
 use Rattle.config.specs.contracts.valid
 use Rattle.config.specs.contracts.nf
 use Rattle.config.specs.contracts.z
@@ -32,69 +33,26 @@ use Rattle.config.specs.contracts.half
 use Rattle.config.specs.contracts.edges
 use Rattle.config.specs.contracts.is_fft_size
 use Rattle.config.specs.contracts.is_dct_length
-use Rattle.refusals.specs.contracts.Verdict.told
+use Rattle.refusals.specs.contracts.Refusal.number
+use Rattle.refusals.specs.contracts.Refusal.index
 use Rattle.refusals.specs.contracts.on_clear
 use Rattle.refusals.specs.contracts.on_values
 use Rattle.refusals.specs.contracts.on_energies
-use Rattle.windows.specs.contracts.w_n60_7p5ms
-use Rattle.windows.specs.contracts.w_n120_7p5ms
-use Rattle.windows.specs.contracts.w_n180_7p5ms
-use Rattle.windows.specs.contracts.w_n240_7p5ms
-use Rattle.windows.specs.contracts.w_n360_7p5ms
-use Rattle.windows.specs.contracts.w_n80_10ms
-use Rattle.windows.specs.contracts.w_n160_10ms
-use Rattle.windows.specs.contracts.w_n240_10ms
-use Rattle.windows.specs.contracts.w_n320_10ms
-use Rattle.windows.specs.contracts.w_n480_10ms
-use Rattle.windows.specs.contracts.w_n40_5ms
-use Rattle.windows.specs.contracts.w_n80_5ms
-use Rattle.windows.specs.contracts.w_n120_5ms
-use Rattle.windows.specs.contracts.w_n160_5ms
-use Rattle.windows.specs.contracts.w_n240_5ms
-use Rattle.windows.specs.contracts.w_n20_2p5ms
-use Rattle.windows.specs.contracts.w_n40_2p5ms
-use Rattle.windows.specs.contracts.w_n60_2p5ms
-use Rattle.windows.specs.contracts.w_n80_2p5ms
-use Rattle.windows.specs.contracts.w_n120_2p5ms
-use Rattle.twiddles.specs.contracts.dct_10
-use Rattle.twiddles.specs.contracts.dct_20
-use Rattle.twiddles.specs.contracts.dct_30
-use Rattle.twiddles.specs.contracts.dct_40
-use Rattle.twiddles.specs.contracts.dct_60
-use Rattle.twiddles.specs.contracts.dct_80
-use Rattle.twiddles.specs.contracts.dct_90
-use Rattle.twiddles.specs.contracts.dct_120
-use Rattle.twiddles.specs.contracts.dct_160
-use Rattle.twiddles.specs.contracts.dct_180
-use Rattle.twiddles.specs.contracts.dct_240
+use Rattle.windows.specs.contracts.window
+use Rattle.twiddles.specs.contracts.dct as dct_twiddles
 use Rattle.gains.specs.contracts.gain
 use Rattle.twiddles.specs.contracts.negate
 use Rattle.columns.specs.contracts.two
 use Rattle.columns.specs.contracts.three
 use Rattle.columns.specs.contracts.four
 use Rattle.columns.specs.contracts.five
-use Rattle.fft_tables.specs.contracts.fft_10
-use Rattle.fft_tables.specs.contracts.fft_20
-use Rattle.fft_tables.specs.contracts.fft_30
-use Rattle.fft_tables.specs.contracts.fft_40
-use Rattle.fft_tables.specs.contracts.fft_60
-use Rattle.fft_tables.specs.contracts.fft_80
-use Rattle.fft_tables.specs.contracts.fft_90
-use Rattle.fft_tables.specs.contracts.fft_120
-use Rattle.fft_tables.specs.contracts.fft_160
-use Rattle.fft_tables.specs.contracts.fft_180
-use Rattle.fft_tables.specs.contracts.fft_240
-use Rattle.fft_tables.specs.contracts.plan_10
-use Rattle.fft_tables.specs.contracts.plan_20
-use Rattle.fft_tables.specs.contracts.plan_30
-use Rattle.fft_tables.specs.contracts.plan_40
-use Rattle.fft_tables.specs.contracts.plan_60
-use Rattle.fft_tables.specs.contracts.plan_80
-use Rattle.fft_tables.specs.contracts.plan_90
-use Rattle.fft_tables.specs.contracts.plan_120
-use Rattle.fft_tables.specs.contracts.plan_160
-use Rattle.fft_tables.specs.contracts.plan_180
-use Rattle.fft_tables.specs.contracts.plan_240
+use Rattle.quads.specs.contracts.Radix2Radix2.turned as turned_2
+use Rattle.quads.specs.contracts.Radix2Radix2.part as part_2
+use Rattle.quads.specs.contracts.Radix3Radix3.turned as turned_3
+use Rattle.quads.specs.contracts.Radix3Radix3.part as part_3
+use Rattle.quads.specs.contracts.Radix4Radix4.turned as turned_4
+use Rattle.fft_tables.specs.contracts.packed
+use Rattle.fft_tables.specs.contracts.plan
 use Rattle.kissfft.specs.contracts.fft
 use Rattle.dct_iv.specs.contracts.dct_iv
 use Rattle.analysis_steps.specs.contracts.silence_300
@@ -113,9 +71,7 @@ use Rattle.near_nyquist.specs.contracts.near_nyquist
 use Rattle.plain_text.specs.contracts.digit
 use Rattle.frame_file.specs.contracts.join
 use Rattle.frame_file.specs.contracts.read_header
-use Rattle.frame_file.specs.contracts.header_number
 use Rattle.frame_file.specs.contracts.read_record
-use Rattle.frame_file.specs.contracts.record_number
 use Rattle.frame_file.specs.contracts.sample
 use Rattle.listing.specs.contracts.open
 use Rattle.listing.specs.contracts.Lister.step
@@ -126,15 +82,12 @@ use Rattle.call_log.specs.contracts.rest
 use Rattle.call_log.specs.contracts.short
 use Rattle.call_log.specs.contracts.word
 use Rattle.call_log.specs.contracts.count
-use Rattle.call_log.specs.contracts.count_floats
-use Rattle.call_log.specs.contracts.count_samples
 use Rattle.call_log.specs.contracts.count_places
 use Rattle.call_log.specs.contracts.samples
 use Rattle.call_log.specs.contracts.floats
 use Rattle.call_log.specs.contracts.area
 use Rattle.call_log.specs.contracts.peaks
 use Rattle.call_log.specs.contracts.read_header as read_log_header
-use Rattle.call_log.specs.contracts.header_number as log_header_number
 use Rattle.call_log.specs.contracts.call_taken
 use Rattle.call_text.specs.contracts.put_call
 use Rattle.call_text.specs.contracts.put_show
@@ -157,8 +110,9 @@ use Rattle.dct_iv.specs.DctIv as dct
 use Rattle.analysis.specs.Analysis as analysis
 use Rattle.measurement.specs.Measurement as measurement
 use Rattle.synthesis.specs.Synthesis as synthesis
-use Rattle.loudest.specs.Loudest.{heard}
-use Rattle.near_nyquist.specs.Sooner.{asked}
+use Rattle.refusals.specs.Refusals.{told_by}
+use Rattle.loudest.specs.Loudest.{heard, outcome as heard_by}
+use Rattle.near_nyquist.specs.Sooner.{asked, outcome as asked_by}
 use Rattle.listing.specs.Steps as steps
 
 -- what a call on the arguments a gives: the return, and what each slice lent for writing holds at exit
@@ -202,7 +156,7 @@ pub record Entries (w : World) : Type 1 where
   pub passes_7 : Entry w passes_7.ended passes_7.clauses
   pub first_failing_6 : Entry w first_failing_6.ended first_failing_6.clauses
   pub first_failing_7 : Entry w first_failing_7.ended first_failing_7.clauses
-  -- complex, methods of Complex
+  -- complex, methods and operators of Complex
   pub new : Entry w new.ended new.clauses
   pub add : Entry w add.ended add.clauses
   pub sub : Entry w sub.ended sub.clauses
@@ -218,47 +172,19 @@ pub record Entries (w : World) : Type 1 where
   pub duration : Entry w duration.ended duration.clauses
   pub upper : Entry w upper.ended upper.clauses
   pub half : Entry w half.ended half.clauses
-  pub edges : Entry w edges.ended edges.clauses
+  pub edges : AsksNothing w edges.ended edges.clauses × OneAnswerOf w edges.ended edges.clauses (λ κs a. List ℕ) (λ κs a x. x.0.now)
   pub is_fft_size : Entry w is_fft_size.ended is_fft_size.clauses
   pub is_dct_length : Entry w is_dct_length.ended is_dct_length.clauses
   -- refusals
-  pub told : Entry w told.ended told.clauses
+  pub number : Entry w number.ended number.clauses
+  pub index : Entry w index.ended index.clauses
   pub on_clear : Entry w on_clear.ended on_clear.clauses
   pub on_values : Entry w on_values.ended on_values.clauses
   pub on_energies : Entry w on_energies.ended on_energies.clauses
   -- windows
-  pub w_n60_7p5ms : Entry w w_n60_7p5ms.ended w_n60_7p5ms.clauses
-  pub w_n120_7p5ms : Entry w w_n120_7p5ms.ended w_n120_7p5ms.clauses
-  pub w_n180_7p5ms : Entry w w_n180_7p5ms.ended w_n180_7p5ms.clauses
-  pub w_n240_7p5ms : Entry w w_n240_7p5ms.ended w_n240_7p5ms.clauses
-  pub w_n360_7p5ms : Entry w w_n360_7p5ms.ended w_n360_7p5ms.clauses
-  pub w_n80_10ms : Entry w w_n80_10ms.ended w_n80_10ms.clauses
-  pub w_n160_10ms : Entry w w_n160_10ms.ended w_n160_10ms.clauses
-  pub w_n240_10ms : Entry w w_n240_10ms.ended w_n240_10ms.clauses
-  pub w_n320_10ms : Entry w w_n320_10ms.ended w_n320_10ms.clauses
-  pub w_n480_10ms : Entry w w_n480_10ms.ended w_n480_10ms.clauses
-  pub w_n40_5ms : Entry w w_n40_5ms.ended w_n40_5ms.clauses
-  pub w_n80_5ms : Entry w w_n80_5ms.ended w_n80_5ms.clauses
-  pub w_n120_5ms : Entry w w_n120_5ms.ended w_n120_5ms.clauses
-  pub w_n160_5ms : Entry w w_n160_5ms.ended w_n160_5ms.clauses
-  pub w_n240_5ms : Entry w w_n240_5ms.ended w_n240_5ms.clauses
-  pub w_n20_2p5ms : Entry w w_n20_2p5ms.ended w_n20_2p5ms.clauses
-  pub w_n40_2p5ms : Entry w w_n40_2p5ms.ended w_n40_2p5ms.clauses
-  pub w_n60_2p5ms : Entry w w_n60_2p5ms.ended w_n60_2p5ms.clauses
-  pub w_n80_2p5ms : Entry w w_n80_2p5ms.ended w_n80_2p5ms.clauses
-  pub w_n120_2p5ms : Entry w w_n120_2p5ms.ended w_n120_2p5ms.clauses
+  pub window : AsksNothing w window.ended window.clauses × OneAnswerOf w window.ended window.clauses (λ κs a. List ℕ) (λ κs a x. x.0.now)
   -- twiddles
-  pub dct_10 : Entry w dct_10.ended dct_10.clauses
-  pub dct_20 : Entry w dct_20.ended dct_20.clauses
-  pub dct_30 : Entry w dct_30.ended dct_30.clauses
-  pub dct_40 : Entry w dct_40.ended dct_40.clauses
-  pub dct_60 : Entry w dct_60.ended dct_60.clauses
-  pub dct_80 : Entry w dct_80.ended dct_80.clauses
-  pub dct_90 : Entry w dct_90.ended dct_90.clauses
-  pub dct_120 : Entry w dct_120.ended dct_120.clauses
-  pub dct_160 : Entry w dct_160.ended dct_160.clauses
-  pub dct_180 : Entry w dct_180.ended dct_180.clauses
-  pub dct_240 : Entry w dct_240.ended dct_240.clauses
+  pub dct_twiddles : AsksNothing w dct_twiddles.ended dct_twiddles.clauses × OneAnswerOf w dct_twiddles.ended dct_twiddles.clauses (λ κs a. List Float) (λ κs a x. x.0.now)
   pub negate : Entry w negate.ended negate.clauses
   -- gains
   pub gain : Entry w gain.ended gain.clauses
@@ -267,29 +193,15 @@ pub record Entries (w : World) : Type 1 where
   pub three : Entry w three.ended three.clauses
   pub four : Entry w four.ended four.clauses
   pub five : Entry w five.ended five.clauses
+  -- quads, methods of Radix2, Radix3 and Radix4
+  pub turned_2 : Entry w turned_2.ended turned_2.clauses
+  pub part_2 : Entry w part_2.ended part_2.clauses
+  pub turned_3 : Entry w turned_3.ended turned_3.clauses
+  pub part_3 : Entry w part_3.ended part_3.clauses
+  pub turned_4 : Entry w turned_4.ended turned_4.clauses
   -- fft_tables
-  pub fft_10 : Entry w fft_10.ended fft_10.clauses
-  pub fft_20 : Entry w fft_20.ended fft_20.clauses
-  pub fft_30 : Entry w fft_30.ended fft_30.clauses
-  pub fft_40 : Entry w fft_40.ended fft_40.clauses
-  pub fft_60 : Entry w fft_60.ended fft_60.clauses
-  pub fft_80 : Entry w fft_80.ended fft_80.clauses
-  pub fft_90 : Entry w fft_90.ended fft_90.clauses
-  pub fft_120 : Entry w fft_120.ended fft_120.clauses
-  pub fft_160 : Entry w fft_160.ended fft_160.clauses
-  pub fft_180 : Entry w fft_180.ended fft_180.clauses
-  pub fft_240 : Entry w fft_240.ended fft_240.clauses
-  pub plan_10 : Entry w plan_10.ended plan_10.clauses
-  pub plan_20 : Entry w plan_20.ended plan_20.clauses
-  pub plan_30 : Entry w plan_30.ended plan_30.clauses
-  pub plan_40 : Entry w plan_40.ended plan_40.clauses
-  pub plan_60 : Entry w plan_60.ended plan_60.clauses
-  pub plan_80 : Entry w plan_80.ended plan_80.clauses
-  pub plan_90 : Entry w plan_90.ended plan_90.clauses
-  pub plan_120 : Entry w plan_120.ended plan_120.clauses
-  pub plan_160 : Entry w plan_160.ended plan_160.clauses
-  pub plan_180 : Entry w plan_180.ended plan_180.clauses
-  pub plan_240 : Entry w plan_240.ended plan_240.clauses
+  pub packed : AsksNothing w packed.ended packed.clauses × OneAnswerOf w packed.ended packed.clauses (λ κs a. List Float) (λ κs a x. x.0.now)
+  pub plan : AsksNothing w plan.ended plan.clauses × OneAnswerOf w plan.ended plan.clauses (λ κs a. List ℕ) (λ κs a x. x.0.now)
   -- kissfft
   pub fft : Entry w fft.ended fft.clauses
   -- dct_iv
@@ -318,9 +230,7 @@ pub record Entries (w : World) : Type 1 where
   -- frame_file
   pub join : Entry w join.ended join.clauses
   pub read_header : Entry w read_header.ended read_header.clauses
-  pub header_number : Entry w header_number.ended header_number.clauses
   pub read_record : Entry w read_record.ended read_record.clauses
-  pub record_number : Entry w record_number.ended record_number.clauses
   pub sample : Entry w sample.ended sample.clauses
   -- listing
   pub opened : Entry w open.ended open.clauses
@@ -334,15 +244,13 @@ pub record Entries (w : World) : Type 1 where
   pub short : Entry w short.ended short.clauses
   pub word : Entry w word.ended word.clauses
   pub count : Entry w count.ended count.clauses
-  pub count_floats : Entry w count_floats.ended count_floats.clauses
-  pub count_samples : Entry w count_samples.ended count_samples.clauses
-  pub count_places : Entry w count_places.ended count_places.clauses
+  -- of any type whose values name no lifetime
+  pub count_places : (T : RattleType) → T.lives ≡ [] → Entry w (count_places.ended T) (count_places.clauses T)
   pub samples : Entry w samples.ended samples.clauses
   pub floats : Entry w floats.ended floats.clauses
   pub area : Entry w area.ended area.clauses
   pub peaks : Entry w peaks.ended peaks.clauses
   pub read_log_header : Entry w read_log_header.ended read_log_header.clauses
-  pub log_header_number : Entry w log_header_number.ended log_header_number.clauses
   pub call_taken : Entry w call_taken.ended call_taken.clauses
   -- call_text
   pub put_call : Entry w put_call.ended put_call.clauses
@@ -369,11 +277,11 @@ pub record Entries (w : World) : Type 1 where
 pub record Cited (w : World) : Type 2 where
   -- kissfft: `fft` gives `answer`
   pub fft : Says w fft.ended fft.clauses
-      (λ κs a x. kissfft.outcome x.0 x.1.1.1.1.1.0 x.1.1.1.1.1.1.0 ≡ kissfft.answer a.0 a.1.0 a.1.1.0.now a.1.1.1.0.now a.1.1.1.1.0.now a.1.1.1.1.1.0.now)
+      (λ κs a x. kissfft.outcome (told_by x.0) x.1.1.1.1.1.0 x.1.1.1.1.1.1.0 ≡ kissfft.answer a.0 a.1.0 a.1.1.0.now a.1.1.1.0.now a.1.1.1.1.0.now a.1.1.1.1.1.0.now)
   -- dct_iv: `dct_iv` gives `answer`
-  pub dct_iv : Says w dct_iv.ended dct_iv.clauses (λ κs a x. dct.outcome x.0 x.1.1.0 ≡ dct.answer a.0 a.1.0.now)
+  pub dct_iv : Says w dct_iv.ended dct_iv.clauses (λ κs a x. dct.outcome (told_by x.0) x.1.1.0 ≡ dct.answer a.0 a.1.0.now)
   -- analysis: `clear` gives `cleared`, `frame` gives `frames`, and so does `frame_at`, on the channel that is lent
-  pub analysis_clear : Says w analysis_clear.ended analysis_clear.clauses (λ κs a x. x.0 ≡ analysis.cleared a.0)
+  pub analysis_clear : Says w analysis_clear.ended analysis_clear.clauses (λ κs a x. analysis.cleared_by x.0 ≡ analysis.cleared a.0)
   pub analysis_frame : Says w analysis_frame.ended analysis_frame.clauses
       (λ κs a x. analysis.frames a.0 (analysis.lent a.1.0.now a.1.1.0.now) ≡ analysis.outcome x.0 x.1.1.1.0)
   pub analysis_frame_at : Says w analysis_frame_at.ended analysis_frame_at.clauses
@@ -383,16 +291,16 @@ pub record Cited (w : World) : Type 2 where
   pub measure : Says w measure.ended measure.clauses
       (λ κs a x. measurement.outcome x.0 x.1.1.1.0 x.1.1.1.1.0 ≡ measurement.measures a.0 (measurement.lent a.1.0.now a.1.1.0.now a.1.1.1.0.now))
   -- synthesis, alike
-  pub synthesis_clear : Says w synthesis_clear.ended synthesis_clear.clauses (λ κs a x. x.0 ≡ synthesis.cleared a.0)
+  pub synthesis_clear : Says w synthesis_clear.ended synthesis_clear.clauses (λ κs a x. synthesis.cleared_by x.0 ≡ synthesis.cleared a.0)
   pub synthesis_frame : Says w synthesis_frame.ended synthesis_frame.clauses
       (λ κs a x. synthesis.frames a.0 (synthesis.lent a.1.0.now a.1.1.0.now) ≡ synthesis.outcome x.0 x.1.1.1.0)
   pub synthesis_frame_at : Says w synthesis_frame_at.ended synthesis_frame_at.clauses
       (λ κs a x. synthesis.frames (synthesis.channel_of a.0 a.1.0.now) (synthesis.lent a.1.1.0.now a.1.1.1.0.now)
       ≡ synthesis.outcome_at a.0 x.0 x.1.1.0 x.1.1.1.1.0)
   -- loudest: `loudest_band` gives `heard`
-  pub loudest_band : Says w loudest_band.ended loudest_band.clauses (λ κs a x. x.0 ≡ heard a.0 a.1.0.now)
+  pub loudest_band : Says w loudest_band.ended loudest_band.clauses (λ κs a x. heard_by x.0 ≡ heard a.0 a.1.0.now)
   -- near_nyquist: `near_nyquist` gives `asked`
-  pub near_nyquist : Says w near_nyquist.ended near_nyquist.clauses (λ κs a x. x.0 ≡ asked a.0 a.1.0.now)
+  pub near_nyquist : Says w near_nyquist.ended near_nyquist.clauses (λ κs a x. asked_by x.0 ≡ asked a.0 a.1.0.now)
   -- listing: `open` gives `opening`, `step` gives `step`
   pub opened : Says w open.ended open.clauses (λ κs a x. x.0 ≡ steps.opening a.0.now)
   pub step : Says w step.ended step.clauses (λ κs a x. x.0 ≡ steps.step a.0 a.1.0.now)

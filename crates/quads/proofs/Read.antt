@@ -2,33 +2,21 @@
 use mathlib.Core.Path.{◌≡◌, refl, ap, ap₂, ◌∙◌}
 use mathlib.Core.Bool.{Bool, true, false}
 use mathlib.Core.List.{List}
-use Prim.Native.Nat.{ℕ, zero, suc, ◌+◌, ◌-◌, ◌*◌, ◌<◌, ◌≤◌}
+use Prim.Native.Nat.{ℕ, zero, suc, ◌+◌, ◌-◌, ◌*◌, ◌%◌, ◌<◌, ◌≤◌}
+use native.Mathlib.Nat.{not-suc-le-zero}
 use native.Mathlib.Omega.{arith}
+use borrow.Author.Count.{below_more}
+use lib.ListN.{length, set, length-set, replicate, length-replicate, get_or-replicate}
+use lib.Seq.{get_or-set_same, get_or-set_other}
 use lib.Ieee.{nan}
 use Rattle.complex.specs.declared.Complex.{Complex}
 use Rattle.complex.specs.Complex.{parts, times}
 use Rattle.laws.specs.Lists.{tab}
 use Rattle.laws.proofs.Lists.{get_or-tab}
-use Rattle.columns.specs.declared.Out4.{Out4}
-use Rattle.columns.specs.Column.{two, three, four, five, col, of4}
-use Rattle.quads.specs.Beside.{twist_by, beside4}
+use Rattle.columns.specs.Column.{four, col}
+use Rattle.quads.specs.Beside.{twist_by, beside, beside_by}
+use Rattle.quads.specs.Radix.{Sees, by_part}
 use Rattle.quads.specs.Rows.{exchanged}
-
--- b depends on the first p of a column
-abbrev pub Sees : ℕ → ((ℕ → Complex) → ℕ → Complex) → Type 0
-Sees p b = (c c' : ℕ → Complex) → ((q : ℕ) → q < p → c q ≡ c' q) → b c ≡ b c'
-
-pub sees2 : Sees 2 two
-sees2 c c' e = rw (e 0 (omega arith), e 1 (omega arith))
-
-pub sees3 : (y : Complex) → Sees 3 (three y)
-sees3 y c c' e = rw (e 0 (omega arith), e 1 (omega arith), e 2 (omega arith))
-
-pub sees4 : (inverse : Bool) → Sees 4 (four inverse)
-sees4 inverse c c' e = rw (e 0 (omega arith), e 1 (omega arith), e 2 (omega arith), e 3 (omega arith))
-
-pub sees5 : (ya yb : Complex) → Sees 5 (five ya yb)
-sees5 ya yb c c' e = rw (e 0 (omega arith), e 1 (omega arith), e 2 (omega arith), e 3 (omega arith), e 4 (omega arith))
 
 -- the same twiddles and places, the same column
 pub twist_same : (w w' c c' : ℕ → Complex) (p : ℕ) → ((q : ℕ) → suc q < p → w q ≡ w' q) → ((q : ℕ) → q < p → c q ≡ c' q) → (q : ℕ) → q < p → twist_by w c q ≡ twist_by w' c' q
@@ -39,43 +27,47 @@ twist_same w w' c c' p e f (suc q) l = ap₂ times (f (suc q) l) (e q l)
 pub seen : (p : ℕ) (c : ℕ → Complex) (b : (ℕ → Complex) → ℕ → Complex) → Sees p b → (s : List Complex) → s ≡ tab p c → b (col s) ≡ b c
 seen p c b sees s read = sees (col s) c (λ q l. ap (λ (x : List Complex). col x q) read ∙ get_or-tab p c (parts nan nan) q l)
 
--- column i: its first place, and place q + 1 with the twiddle that stands in part q, where k and w are theirs
-pub first : (f : ℕ → Complex) (i m : ℕ) {x : Complex} → x ≡ f i → x ≡ f (i + m * 0)
-first f i m e = let z : i ≡ i + m * 0 = omega arith in e ∙ ap f z
+-- The first q of the p places of l are those of column i, twiddled with u.
+pub record Read (p : ℕ) (u : ℕ → Complex) (m i : ℕ) (f : ℕ → Complex) (q : ℕ) (l : List Complex) : Type 0 where
+  pub size : length l ≡ p
+  pub some : 0 < q
+  pub are : (k : ℕ) → k < q → col l k ≡ twist_by (beside u m i) (λ q. f (i + m * q)) k
 
-pub later : (f u : ℕ → Complex) (i m q : ℕ) {x : Complex} {k w : ℕ} → k ≡ i + m * suc q → w ≡ i + m * q → x ≡ times (f k) (u w) → x ≡ times (f (i + m * suc q)) (u (i + m * q))
-later f u i m q at-k at-w e = e ∙ ap₂ (λ (a b : ℕ). times (f a) (u b)) at-k at-w
+module _ {p : ℕ} {u : ℕ → Complex} {m i : ℕ} {f : ℕ → Complex} where
+  pub read_first : {x : Complex} → 0 < p → x ≡ f i → Read p u m i f 1 (replicate p x)
+  read_first {x} h e =
+      let z : i ≡ i + m * 0 = omega arith in
+      record {
+        size = length-replicate p x;
+        some = omega arith;
+        are = below_more (λ k. col (replicate p x) k ≡ twist_by (beside u m i) (λ q. f (i + m * q)) k) 0 (λ k l. absurd (not-suc-le-zero l)) (get_or-replicate p 0 x (parts nan nan) h ∙ e ∙ ap f z);
+      }
 
--- a column's four parts in the order o
-abbrev pub ordered : (ℕ → ℕ) → (ℕ → Complex) → Out4
-ordered o c = record { a = c (o 0); b = c (o 1); c = c (o 2); d = c (o 3) }
+  pub read_more : {q : ℕ} {l : List Complex} {x : Complex} → Read p u m i f q l → q < p → x ≡ times (f (i + m * q)) (u (i + m * (q - 1))) → Read p u m i f (q + 1) (set l q x)
+  read_more {q} {l} {x} r h e =
+      let inside : q < length l = omega (arith, r.size) in
+      record {
+        size = length-set l q x ∙ r.size;
+        some = omega arith;
+        are = below_more (λ k. col (set l q x) k ≡ twist_by (beside u m i) (λ q. f (i + m * q)) k) q
+            (λ k b. get_or-set_other l q k x (parts nan nan) (λ is. omega (arith, is)) ∙ r.are k b)
+            (get_or-set_same l q x (parts nan nan) inside ∙ e ∙ later q r.some);
+      }
+    where
+      later : (q : ℕ) → 0 < q → times (f (i + m * q)) (u (i + m * (q - 1))) ≡ twist_by (beside u m i) (λ q. f (i + m * q)) q
+      later zero l = absurd (not-suc-le-zero l)
+      later (suc q) l = let back : suc q - 1 ≡ q = omega arith in ap (λ (r : ℕ). times (f (i + m * suc q)) (u (i + m * r))) back
+
+  -- all p places: what a butterfly makes of them is what it makes of the column
+  pub read_all : {b : (ℕ → Complex) → ℕ → Complex} {q : ℕ} {l : List Complex} → Sees p b → Read p u m i f q l → p ≤ q → b (col l) ≡ beside_by b u m i (λ q. f (i + m * q))
+  read_all sees r past = sees _ _ (λ k l. r.are k (omega arith))
 
 -- the forward radix 4 has each part where the direction exchanges it to
-pub exchange4 : (inverse : Bool) (u : ℕ → Complex) (m j : ℕ) (c : ℕ → Complex)
-    → of4 (beside4 false u m j c) ≡ ordered (exchanged inverse) (beside4 inverse u m j c)
-unfolding beside4 exchanged
-exchange4 false u m j c = refl
-exchange4 true u m j c = refl
+pub exchange4 : (inverse : Bool) (c : ℕ → Complex) → tab 4 (four false c) ≡ tab 4 (λ q. four inverse c (exchanged inverse q))
+unfolding tab exchanged
+exchange4 false c = refl
+exchange4 true c = refl
 
--- the parts that are exchanged, and the places before them
-pub record Sides (inverse : Bool) (m s : ℕ) : Type 0 where
-  pub low : s ≤ 3
-  pub second_is : s ≡ exchanged inverse 1
-  pub fourth_is : 4 - s ≡ exchanged inverse 3
-  pub second_in : m * s ≤ m * 3
-  pub fourth_in : m * (4 - s) ≤ m * 3
-
-pub sides : (inverse : Bool) (m s : ℕ) → s ≡ exchanged inverse 1 → Sides inverse m s
+pub exchanged_is : (q : ℕ) → q < 4 → (4 - q) % 4 ≡ exchanged true q
 unfolding exchanged
-sides false m s e = rw e (record { low = omega arith; second_is = refl; fourth_is = refl; second_in = omega arith; fourth_in = omega arith })
-sides true m s e = rw e (record { low = omega arith; second_is = refl; fourth_is = refl; second_in = omega arith; fourth_in = omega arith })
-
-pub exchanged_0 : (inverse : Bool) (i m : ℕ) → i ≡ i + m * exchanged inverse 0
-unfolding exchanged
-exchanged_0 false i m = omega arith
-exchanged_0 true i m = omega arith
-
-pub exchanged_2 : (inverse : Bool) → 2 ≡ exchanged inverse 2
-unfolding exchanged
-exchanged_2 false = refl
-exchanged_2 true = refl
+exchanged_is = by_part (λ q. (4 - q) % 4 ≡ exchanged true q) refl refl refl refl

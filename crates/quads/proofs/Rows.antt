@@ -1,12 +1,12 @@
 -- What stands at a place once columns are written part by part, for any number of columns and any order of the parts. Assumes nothing.
 use mathlib.Core.Path.{◌≡◌, refl, sym, ap, ap₂, ◌∙◌, fun_ext}
-use mathlib.Core.Bool.{Bool, true, false}
 use mathlib.Core.List.{List, [], ◌∷◌}
 use Prim.Native.Nat.{ℕ, zero, suc, ◌+◌, ◌*◌, ◌/◌, ◌%◌, ◌<◌, ◌≤◌}
-use native.Mathlib.Nat.{not-suc-le-zero, add-mul-mod_self_left, add-mul-div_left, mod-eq_of_lt, div-eq_of_lt, mod-add-div}
+use native.Mathlib.Numerals.{add-one}
+use native.Mathlib.Nat.{mul-le-mul_left, mul-suc, not-suc-le-zero, add-mul-mod_self_left, add-mul-div_left, mod-eq_of_lt, div-eq_of_lt, mod-add-div}
 use native.Mathlib.Decide.{ℕ_discrete}
 use native.Mathlib.Omega.{arith}
-use lib.ListN.{length, set, length-set}
+use lib.ListN.{length, get_or, set, length-set}
 use lib.Ieee.{Float, nan}
 use Rattle.complex.specs.declared.Complex.{Complex}
 use Rattle.complex.specs.Complex.{parts, upd, at}
@@ -14,7 +14,7 @@ use Rattle.complex.proofs.Places.{upd_same, upd_other, put-at}
 use Rattle.laws.specs.Lists.{tab}
 use Rattle.laws.proofs.Lists.{get_or-tab}
 use Rattle.columns.specs.Column.{col}
-use Rattle.quads.specs.Rows.{writes, rows, exchanged, turned, turned_columns, lane}
+use Rattle.quads.specs.Rows.{writes, rows, turned, turned_columns, lane}
 
 -- place i + m q: its column and its part
 pub col_of : (m i q : ℕ) → i < m → (i + m * q) % m ≡ i
@@ -71,57 +71,44 @@ module _ (n m : ℕ) (g : ℕ → Complex) (i : ℕ) (o : ℕ → ℕ) (v : ℕ 
       writes_off _ _ _ n k (λ c l e. off c p l (omega arith) (spot (o p) c k l e).0 (spot (o p) c k l e).1)
       ∙ rows_off p k (λ c q l b. off c q l (omega arith))
 
--- an order that goes through the p parts, and is its own inverse
-pub record Through (p : ℕ) (o : ℕ → ℕ) : Type 0 where
-  pub into : (q : ℕ) → q < p → o q < p
-  pub back : (q : ℕ) → q < p → o (o q) ≡ q
-
-pub in_turn_lem : (p : ℕ) → Through p (λ q. q)
-in_turn_lem p = record { into = λ q l. l; back = λ q l. refl }
-
--- each of four parts
-by_part : (P : ℕ → Type 0) → P 0 → P 1 → P 2 → P 3 → (q : ℕ) → q < 4 → P q
-by_part P p0 p1 p2 p3 zero l = p0
-by_part P p0 p1 p2 p3 (suc zero) l = p1
-by_part P p0 p1 p2 p3 (suc (suc zero)) l = p2
-by_part P p0 p1 p2 p3 (suc (suc (suc zero))) l = p3
-by_part P p0 p1 p2 p3 (suc (suc (suc (suc q)))) l = absurd (omega arith)
-
-pub exchange : (inverse : Bool) → Through 4 (exchanged inverse)
-unfolding exchanged
-exchange false = in_turn_lem 4
-exchange true = record {
-  into = by_part (λ q. exchanged true q < 4) (omega arith) (omega arith) (omega arith) (omega arith);
-  back = by_part (λ q. exchanged true (exchanged true q) ≡ q) refl refl refl refl;
-}
-
 -- the numbers x are written
 put_done : (g : ℕ → Complex) (k n : ℕ) (w : ℕ → Complex) (x : List Complex) → x ≡ tab n w → writes g k (col x) n ≡ writes g k w n
 put_done g k n w x e = writes_ext g k (col x) w n (λ c l. ap (λ (y : List Complex). col y c) e ∙ get_or-tab n w (parts nan nan) c l)
 
--- Columns of f from i on, read and turned by b into structs: `of` makes one of a column, and part o q of it stands in the struct at π. One more part is written,
--- whatever the radix.
-module _ {X : Type 0} (of : (ℕ → Complex) → X) (m : ℕ) (o : ℕ → ℕ) (b : ℕ → (ℕ → Complex) → ℕ → Complex) (i : ℕ) (f : ℕ → Complex) where
-  here : (A : X) → A ≡ of (turned m b f i) → A ≡ of (turned m b f (i + 0))
-  here A e = let z : i ≡ i + 0 = omega arith in e ∙ ap (λ (j : ℕ). of (turned m b f j)) z
+-- a part of any of n columns is in the block
+pub part_in : (p m i n r : ℕ) → i + n ≤ m → r < p → i + m * r + n ≤ m * p
+part_in p m i n r h l = omega (arith, mul-le-mul_left m l, mul-suc m r)
 
-  -- of four columns, from place k on
-  pub row_more : {A B C D : X} → A ≡ of (turned m b f i) → B ≡ of (turned m b f (i + 1)) → C ≡ of (turned m b f (i + 2)) → D ≡ of (turned m b f (i + 3))
-      → (q : ℕ) (π : X → Complex) (k : ℕ) (g h : ℕ → Complex) → ((c : ℕ → Complex) → π (of c) ≡ c (o q)) → k ≡ i + m * o q → g ≡ turned_columns 4 q m o b i f
-      → h ≡ writes g k (col (π A ∷ π B ∷ π C ∷ π D ∷ [])) 4 → h ≡ turned_columns 4 (suc q) m o b i f
+-- Columns of f from i on, read and turned by b into the p parts of each, in the order o. One more part is written, whatever the radix.
+module _ (p m : ℕ) (o : ℕ → ℕ) (b : ℕ → (ℕ → Complex) → ℕ → Complex) (f : ℕ → Complex) where
+  abbrev Turned : List Complex → ℕ → Type 0
+  Turned A j = A ≡ tab p (λ q. turned m b f j (o q))
+
+  part_of_column : {A : List Complex} (j : ℕ) → Turned A j → (q : ℕ) (d : Complex) → q < p → get_or A q d ≡ turned m b f j (o q)
+  part_of_column j e q d l = ap (λ (x : List Complex). get_or x q d) e ∙ get_or-tab p (λ q. turned m b f j (o q)) d q l
+
+  at_first : {A : List Complex} (i : ℕ) → Turned A i → Turned A (i + 0)
+  at_first {A} i e = let z : i ≡ i + 0 = omega arith in e ∙ ap (λ (j : ℕ). tab p (λ q. turned m b f j (o q))) z
+
+  -- of four columns
+  pub row_more : (i q : ℕ) (d : Complex) {A B C D : List Complex} {g h : ℕ → Complex} {k : ℕ}
+      → Turned A i → Turned B (i + 1) → Turned C (i + 2) → Turned D (i + 3) → q < p → k ≡ o q → g ≡ turned_columns 4 q m o b i f
+      → h ≡ writes g (i + m * k) (col (get_or A q d ∷ get_or B q d ∷ get_or C q d ∷ get_or D q d ∷ [])) 4 → h ≡ turned_columns 4 (q + 1) m o b i f
   unfolding tab
-  row_more {A} {B} {C} {D} ea eb ec ed q π k g h is place before stored =
-      let read : π A ∷ π B ∷ π C ∷ π D ∷ [] ≡ tab 4 (λ c. turned m b f (i + c) (o q)) =
-      λ z. (ap π (here A ea) ∙ is _) z ∷ (ap π eb ∙ is _) z ∷ (ap π ec ∙ is _) z ∷ (ap π ed ∙ is _) z ∷ [] in
+  row_more i q d {A} {B} {C} {D} ea eb ec ed l place before stored =
+      let read : get_or A q d ∷ get_or B q d ∷ get_or C q d ∷ get_or D q d ∷ [] ≡ tab 4 (λ c. turned m b f (i + c) (o q)) =
+      λ z. part_of_column (i + 0) (at_first i ea) q d l z ∷ part_of_column (i + 1) eb q d l z ∷ part_of_column (i + 2) ec q d l z ∷ part_of_column (i + 3) ed q d l z ∷ [] in
       stored ∙ rw (before, place) (put_done (turned_columns 4 q m o b i f) (i + m * o q) 4 (λ c. turned m b f (i + c) (o q)) _ read)
+      ∙ ap (λ (r : ℕ). turned_columns 4 r m o b i f) (sym (add-one q))
 
-  -- of one, to place k
-  pub place_more : {A : X} → A ≡ of (turned m b f i) → (q : ℕ) (π : X → Complex) (k : ℕ) (g h : ℕ → Complex) → ((c : ℕ → Complex) → π (of c) ≡ c (o q)) → k ≡ i + m * o q
-      → g ≡ turned_columns 1 q m o b i f → h ≡ upd g k (π A) → h ≡ turned_columns 1 (suc q) m o b i f
-  place_more {A} ea q π k g h is place before stored =
-      let at-k : k ≡ i + m * o q + 0 = omega arith in
-      stored ∙ ap₂ (λ (g : ℕ → Complex) (j : ℕ). upd g j (π A)) before at-k
-      ∙ ap (λ (x : Complex). upd (turned_columns 1 q m o b i f) (i + m * o q + 0) x) (ap π (here A ea) ∙ is _)
+  -- of one
+  pub place_more : (i q : ℕ) (d : Complex) {A : List Complex} {g h : ℕ → Complex} {k : ℕ}
+      → Turned A i → q < p → k ≡ o q → g ≡ turned_columns 1 q m o b i f → h ≡ upd g (i + m * k) (get_or A q d) → h ≡ turned_columns 1 (q + 1) m o b i f
+  place_more i q d {A} ea l place before stored =
+      let at-k : i + m * o q ≡ i + m * o q + 0 = omega arith in
+      stored ∙ ap₂ (λ (g : ℕ → Complex) (j : ℕ). upd g j (get_or A q d)) before (ap (λ (r : ℕ). i + m * r) place ∙ at-k)
+      ∙ ap (λ (x : Complex). upd (turned_columns 1 q m o b i f) (i + m * o q + 0) x) (part_of_column (i + 0) (at_first i ea) q d l)
+      ∙ ap (λ (r : ℕ). turned_columns 1 r m o b i f) (sym (add-one q))
 
 -- four neighbouring stores to each list
 pub lanes : (re im : List Float) (k : ℕ) (a b c d : Complex) → k + 4 ≤ length re → k + 4 ≤ length im

@@ -1,11 +1,11 @@
 -- What a stage makes of column j where its twiddles stand one beside the other, in parts of m places as the block's. A column is a function from its part q to
 -- a complex number. Definitions only.
-use Rattle.std.specs.Prelude.{Bool, ℕ, zero, suc, ◌+◌, ◌*◌, Float}
+use Rattle.std.specs.Prelude.{ℕ, zero, suc, ◌+◌, ◌*◌, Float}
 use Rattle.std.specs.Float.{binary32}
 use Rattle.std.specs.Float.Ieee.{of_bits}
 use Rattle.complex.specs.declared.Complex.{Complex}
 use Rattle.complex.specs.Complex.{parts, times}
-use Rattle.columns.specs.Column.{two, three, four, five}
+use Rattle.columns.specs.Column.{five}
 
 -- a column before its butterfly: place q + 1 is multiplied by w q
 abbrev pub twist_by : (ℕ → Complex) → (ℕ → Complex) → ℕ → Complex
@@ -16,15 +16,9 @@ twist_by w c (suc q) = times (c (suc q)) (w q)
 abbrev pub beside : (ℕ → Complex) → ℕ → ℕ → ℕ → Complex
 beside u m j q = u (j + m * q)
 
-unfoldable pub beside2 : (ℕ → Complex) → ℕ → ℕ → (ℕ → Complex) → ℕ → Complex
-beside2 u m j c = two (twist_by (beside u m j) c)
-
--- y is a third of a turn
-unfoldable pub beside3 : Complex → (ℕ → Complex) → ℕ → ℕ → (ℕ → Complex) → ℕ → Complex
-beside3 y u m j c = three y (twist_by (beside u m j) c)
-
-unfoldable pub beside4 : Bool → (ℕ → Complex) → ℕ → ℕ → (ℕ → Complex) → ℕ → Complex
-beside4 inverse u m j c = four inverse (twist_by (beside u m j) c)
+-- a column of any radix: b is its butterfly
+abbrev pub beside_by : ((ℕ → Complex) → ℕ → Complex) → (ℕ → Complex) → ℕ → ℕ → (ℕ → Complex) → ℕ → Complex
+beside_by b u m j c = b (twist_by (beside u m j) c)
 
 -- 1.0
 abbrev pub one32 : Float

@@ -3,43 +3,43 @@
 use mathlib.Core.Path.{◌≡◌, refl, sym, ap, ◌∙◌}
 use mathlib.Core.Bool.{Bool, true, false, not, cond}
 use mathlib.Core.List.{List}
-use Prim.Native.Nat.{ℕ, ◌≤◌, ◌<◌}
+use Prim.Native.Nat.{ℕ}
 use native.Mathlib.Omega.{arith}
 use lib.Dec.{T, eqb, eqb→eq}
 use lib.ListN.{length}
 use lib.Ieee.{Float}
-use borrow.Author.Tests.{not-true, not-false, eq-eqb, ne_eqb}
-use Rattle.laws.specs.Lists.{first}
+use borrow.Author.Tests.{eq-eqb, ne_eqb}
+use Rattle.std.specs.Prelude.{Some, None}
+use Rattle.laws.specs.Lists.{first, failing}
 use Rattle.laws.specs.Passes.{passes7}
-use Rattle.laws.proofs.Lists.{first-le}
+use Rattle.laws.proofs.Lists.{failing_last}
 use Rattle.config.specs.Config.{valid, nb}
 use Rattle.refusals.specs.declared.Verdict.{Verdict}
+use Rattle.refusals.proofs.Verdicts.{by_first}
 use Rattle.refusals.specs.Refusals.{accepted, bad_config, bad_energies, bad_energy, told, judged, on_energies}
 
--- v, n and k are what the code has for the configuration's being one, its number of bands, and the first energy that does not pass
+-- v and n are what the code has for the configuration's being one, and its number of bands
 module _ (c : ℕ) (l : List Float) {v : Bool} (ev : v ≡ valid c) where
-  pub gives_1 : not v ≡ true → told bad_config ≡ on_energies c l
+  pub gives_1 : v ≡ false → told bad_config ≡ on_energies c l
   unfolding on_energies
-  gives_1 h = rw (sym ev ∙ not-true v h)
+  gives_1 h = rw (sym ev ∙ h)
 
-  module _ (h : not v ≡ false) {n : ℕ} (en : n ≡ nb c) where
-    ok : valid c ≡ true
-    ok = sym ev ∙ not-false v h
-
+  module _ (h : v ≡ true) {n : ℕ} (en : n ≡ nb c) where
     pub gives_5 : (length l ≡ n → ⊥) → told bad_energies ≡ on_energies c l
     unfolding on_energies
-    gives_5 g = rw (ok, ne_eqb (length l) (nb c) (λ e. g (e ∙ sym en)))
+    gives_5 g = rw (sym ev ∙ h, ne_eqb (length l) (nb c) (λ e. g (e ∙ sym en)))
 
-    module _ (e : length l ≡ n) {k : ℕ} (ek : k ≡ first passes7 l) where
-      pub gives_7 : k < length l → ◌≡◌ {A = Verdict} (record { number = bad_energy; index = k }) (on_energies c l)
-      unfolding on_energies
-      gives_7 g =
-          rw (ok, eq-eqb (length l) (nb c) (e ∙ en), ne_eqb (first passes7 l) (length l) (λ q. omega arith))
-          (ap (λ i. record { number = bad_energy; index = i }) ek)
+    module _ (e : length l ≡ n) where
+      chosen : (b : Bool) (k : ℕ) → cond b (told accepted) (record { number = bad_energy; index = k }) ≡ by_first bad_energy (cond (not b) (Some k) None)
+      chosen true k = refl
+      chosen false k = refl
 
-      pub gives_0 : length l ≤ k → told accepted ≡ on_energies c l
+      -- the last test, by the first energy that fails, if there is one
+      pub gives_7 : on_energies c l ≡ by_first bad_energy (failing passes7 l)
       unfolding on_energies
-      gives_0 g = rw (ok, eq-eqb (length l) (nb c) (e ∙ en), eq-eqb (first passes7 l) (length l) (omega (arith, ek, first-le passes7 l)))
+      gives_7 =
+          rw (sym ev ∙ h, eq-eqb (length l) (nb c) (e ∙ en))
+          (chosen (eqb (first passes7 l) (length l)) (first passes7 l) ∙ ap (by_first bad_energy) (sym (failing_last passes7 l)))
 
 -- a chain of three refusals, over its tests
 abbrev chain : {A : Type 0} → (ℕ → ℕ → A) → A → Bool → Bool → Bool → ℕ → A

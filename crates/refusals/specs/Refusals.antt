@@ -1,10 +1,11 @@
 -- Document 01's refusal numbers by name, in the order in which they are tested, and the verdicts that several calls share. Definitions only.
-use Rattle.std.specs.Prelude.{Bool, true, false, not, cond, List, ℕ, eqb, ltb, Float, length}
+use Rattle.std.specs.Prelude.{Bool, true, false, not, cond, List, ℕ, eqb, ltb, Float, length, ⊤, Result, Ok, Err}
 use Rattle.laws.specs.Lists.{first}
 use Rattle.laws.specs.Passes.{passes6, passes7}
 use Rattle.config.specs.Config.{valid, nb}
 use Rattle.refusals.specs.declared.Verdict.{Verdict}
-use Rattle.refusals.specs.declared.Clear.{Clear}
+use Rattle.refusals.specs.declared.Refusal.{Refusal}
+use Rattle.refusals.specs.declared.Refusal.TheVariants.{BadConfig, BadSize, BadInput, BadOutput, BadEnergies, BadValue, BadEnergy, ShortFile, BadMark, BadVersion, CutFrame}
 
 -- "0 is acceptance"
 abbrev pub accepted : ℕ
@@ -55,6 +56,35 @@ bad_version = 10
 abbrev pub cut_frame : ℕ
 cut_frame = 11
 
+-- ---- the paper's number and index for each case of the code's answer
+abbrev pub number_of : Refusal → ℕ
+number_of BadConfig = bad_config
+number_of BadSize = bad_size
+number_of BadInput = bad_input
+number_of BadOutput = bad_output
+number_of BadEnergies = bad_energies
+number_of (BadValue i) = bad_value
+number_of (BadEnergy i) = bad_energy
+number_of ShortFile = short_file
+number_of BadMark = bad_mark
+number_of BadVersion = bad_version
+number_of CutFrame = cut_frame
+
+-- "the index is 0 but for 6 and 7"
+abbrev pub index_of : Refusal → ℕ
+index_of BadConfig = 0
+index_of BadSize = 0
+index_of BadInput = 0
+index_of BadOutput = 0
+index_of BadEnergies = 0
+index_of (BadValue i) = i
+index_of (BadEnergy i) = i
+index_of ShortFile = 0
+index_of BadMark = 0
+index_of BadVersion = 0
+index_of CutFrame = 0
+
+-- ---- verdicts
 -- "the index is 0 but for 6 and 7": the verdict with a number of the first six, where i is the first place that does not pass 6
 abbrev pub verdict_of : ℕ → ℕ → Verdict
 verdict_of n i = record { number = n; index = cond (eqb n bad_value) i 0 }
@@ -62,6 +92,11 @@ verdict_of n i = record { number = n; index = cond (eqb n bad_value) i 0 }
 -- a verdict whose number goes with no place
 abbrev pub told : ℕ → Verdict
 told n = record { number = n; index = 0 }
+
+-- the verdict that an answer is
+abbrev pub told_by : {A : Type 0} → Result A Refusal → Verdict
+told_by (Ok a) = told accepted
+told_by (Err r) = record { number = number_of r; index = index_of r }
 
 -- values that have passed all but the test of 6
 unfoldable pub on_values : List Float → Verdict
@@ -73,9 +108,9 @@ abbrev pub clearing : {A : Type 0} → (ℕ → ℕ → A) → Bool → ℕ → 
 clearing made true c = made accepted c
 clearing made false c = made bad_config 255
 
--- the number and the configuration alone
-unfoldable pub on_clear : ℕ → Clear
-on_clear c = clearing (λ n d. record { number = n; config = d }) (valid c) c
+-- the test alone
+abbrev pub on_clear : ℕ → Result ⊤ Refusal
+on_clear c = cond (valid c) (Ok tt) (Err BadConfig)
 
 -- a call on energies alone, by its tests 1, 5 and 7: what it answers on energies that pass, and beside a refusal
 abbrev pub judged : {A : Type 0} → (ℕ → ℕ → A) → A → ℕ → List Float → A

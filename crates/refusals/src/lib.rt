@@ -1,36 +1,60 @@
-// The refusals: their numbers by name, what a call is told of one, and the tests that several calls make alike. New in this port.
+// The refusals: why a call is refused, document 01's numbers for it, and the tests that several
+// calls make alike. New in this port.
 
 #![tactic(auto)]
 
 ghost use Rattle.std.specs.Prelude.{◌≡◌};
-ghost use Rattle.refusals.specs.Refusals.{told, on_clear, on_values, on_energies};
+ghost use Rattle.refusals.specs.Refusals.{number_of, index_of, told_by, on_clear, on_values, on_energies};
 
-// Document 01's numbers, in the order in which they are tested.
-pub const ACCEPTED: u8 = 0;
+// Why a call is refused, in the order in which the reasons are tested. A bad value and a bad
+// energy say which is the first.
+#[derive(Clone, Copy, PartialEq, Eq, Debug)]
+pub enum Refusal {
+    BadConfig,
+    BadSize,
+    BadInput,
+    BadOutput,
+    BadEnergies,
+    BadValue(usize),
+    BadEnergy(usize),
+    ShortFile,
+    BadMark,
+    BadVersion,
+    CutFrame,
+}
 
-pub const BAD_CONFIG: u8 = 1;
+impl Refusal {
+    // Entry. Document 01's number.
+    pub fn number(self) -> u8
+        ensures { result ≡ number_of self }
+    {
+        match self {
+            Refusal::BadConfig => 1,
+            Refusal::BadSize => 2,
+            Refusal::BadInput => 3,
+            Refusal::BadOutput => 4,
+            Refusal::BadEnergies => 5,
+            Refusal::BadValue(_) => 6,
+            Refusal::BadEnergy(_) => 7,
+            Refusal::ShortFile => 8,
+            Refusal::BadMark => 9,
+            Refusal::BadVersion => 10,
+            Refusal::CutFrame => 11,
+        }
+    }
 
-pub const BAD_SIZE: u8 = 2;
+    // Entry. The index beside the number: the first bad value's or energy's, else 0.
+    pub fn index(self) -> usize
+        ensures { result ≡ index_of self }
+    {
+        match self {
+            Refusal::BadValue(index) | Refusal::BadEnergy(index) => index,
+            _ => 0,
+        }
+    }
+}
 
-pub const BAD_INPUT: u8 = 3;
-
-pub const BAD_OUTPUT: u8 = 4;
-
-pub const BAD_ENERGIES: u8 = 5;
-
-pub const BAD_VALUE: u8 = 6;
-
-pub const BAD_ENERGY: u8 = 7;
-
-pub const SHORT_FILE: u8 = 8;
-
-pub const BAD_MARK: u8 = 9;
-
-pub const BAD_VERSION: u8 = 10;
-
-pub const CUT_FRAME: u8 = 11;
-
-// What a call is told of its refusal: the number, 0 where it is accepted, and for numbers 6 and 7 the place.
+// What C is told of a call: the number, 0 where it is accepted, and for numbers 6 and 7 the index.
 #[repr(C)]
 #[derive(Clone, Copy)]
 pub struct Verdict {
@@ -38,69 +62,64 @@ pub struct Verdict {
     pub index: usize,
 }
 
-impl Verdict {
-    // Entry. A number that goes with no place.
-    pub fn told(number: u8) -> Verdict
-        ensures { result ≡ told number }
-    {
-        Verdict { number, index: 0 }
+impl From<Result<(), Refusal>> for Verdict {
+    ghost from_gives = { λ told v. v ≡ told_by told };
+
+    // Entry. The number and the index of an answer.
+    fn from(told: Result<(), Refusal>) -> Verdict {
+        match told {
+            Ok(()) => Verdict {
+                number: 0,
+                index: 0,
+            },
+            Err(refusal) => Verdict {
+                number: refusal.number(),
+                index: refusal.index(),
+            },
+        }
     }
 }
 
-// What a clear is told, and the configuration of the channel that it gives.
+// What a call on a channel answers: whether it is refused, and the channel after it.
 #[derive(Clone, Copy)]
-pub struct Clear {
-    pub number: u8,
-    pub config: u8,
+pub struct Answered<C> {
+    pub told: Result<(), Refusal>,
+    pub channel: C,
 }
 
-// Entry. A clear's number, and its channel's configuration: the one asked for, or 255 beside a refusal.
-pub fn on_clear(config: u8) -> Clear
+// Entry. The test of a clear: 1.
+pub fn on_clear(config: u8) -> Result<(), Refusal>
     ensures { result ≡ on_clear config }
 {
     if config::valid(config) {
-        Clear {
-            number: ACCEPTED,
-            config,
-        }
+        Ok(())
     } else {
-        Clear {
-            number: BAD_CONFIG,
-            config: 255,
-        }
+        Err(Refusal::BadConfig)
     }
 }
 
-// Entry. The verdict on values that have passed all but the test of 6.
-pub fn on_values(values: &[f32]) -> Verdict
-    ensures { result ≡ on_values values.now }
+// Entry. The test of values that have passed all others: 6.
+pub fn on_values(values: &[f32]) -> Result<(), Refusal>
+    ensures { told_by result ≡ on_values values.now }
 {
-    let first = laws::first_failing_6(values);
-    if first < values.len() {
-        return Verdict {
-            number: BAD_VALUE,
-            index: first,
-        };
+    match laws::first_failing_6(values) {
+        Some(index) => Err(Refusal::BadValue(index)),
+        None => Ok(()),
     }
-    Verdict::told(ACCEPTED)
 }
 
-// Entry. The verdict on the energies of a configuration: 1, 5 and 7.
-pub fn on_energies(config: u8, energies: &[f32]) -> Verdict
-    ensures { result ≡ on_energies config energies.now }
+// Entry. The tests of the energies of a configuration: 1, 5 and 7.
+pub fn on_energies(config: u8, energies: &[f32]) -> Result<(), Refusal>
+    ensures { told_by result ≡ on_energies config energies.now }
 {
     if !config::valid(config) {
-        return Verdict::told(BAD_CONFIG);
+        return Err(Refusal::BadConfig);
     }
     if energies.len() != config::nb(config) {
-        return Verdict::told(BAD_ENERGIES);
+        return Err(Refusal::BadEnergies);
     }
-    let failing = laws::first_failing_7(energies);
-    if failing < energies.len() {
-        return Verdict {
-            number: BAD_ENERGY,
-            index: failing,
-        };
+    match laws::first_failing_7(energies) {
+        Some(index) => Err(Refusal::BadEnergy(index)),
+        None => Ok(()),
     }
-    Verdict::told(ACCEPTED)
 }

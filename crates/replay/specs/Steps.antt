@@ -1,8 +1,6 @@
 -- A step of the run: the call at the front of the bytes, or the last line. Definitions only.
-use Rattle.std.specs.Prelude.{ℕ, Bool, cond, List, [], ◌∷◌, ltb, eqb, length, get_or, take}
+use Rattle.std.specs.Prelude.{ℕ, Bool, cond, List, [], ◌∷◌, ltb, eqb, length, get_or, take, Option, Some, None}
 use Rattle.call_log.specs.Log.{call_taken}
-use Rattle.call_log.specs.declared.Taken.{Taken}
-use Rattle.call_log.specs.declared.Taken.TheVariants.{Whole, Stopped}
 use Rattle.call_text.specs.Page.{Page, page, written}
 use Rattle.call_text.specs.Lines.{call_text, show_text, last_line}
 use Rattle.call_made.specs.declared.Answer.{Answer}
@@ -11,7 +9,7 @@ use Rattle.call_made.specs.Made.{made}
 
 -- ---- the text
 abbrev pub answer_text : ℕ → ℕ → Answer → List ℕ
-answer_text count kind a = call_text count kind a.number a.index a.extra (take a.m a.x) (take a.n a.y) (take a.o a.z)
+answer_text count kind a = call_text count kind a.told.number a.told.index a.extra (take a.m a.x) (take a.n a.y) (take a.o a.z)
 
 -- "8 `analysis C` and every sample of the array in decimal, `synthesis C` and every place of the memory in hex"
 abbrev pub made_text : ℕ → ℕ → Bench → List ℕ
@@ -29,9 +27,9 @@ last_text is_end n = last_line (last_word is_end) n
 
 -- ---- the step
 -- how many bytes the call at the front takes, 0 where there is none
-abbrev pub whole_of : Taken → ℕ
-whole_of (Whole n) = n
-whole_of Stopped = 0
+abbrev pub whole_of : Option ℕ → ℕ
+whole_of (Some n) = n
+whole_of None = 0
 
 abbrev pub taken_of : List ℕ → ℕ
 taken_of b = whole_of (call_taken b)

@@ -4,12 +4,11 @@
 
 #![tactic(auto)]
 
-ghost use Rattle.std.specs.Prelude.{◌≤◌, ◌≡◌, length};
+ghost use Rattle.std.specs.Prelude.{◌≤◌, ◌≡◌, length, take};
 ghost use Rattle.call_text.specs.Page.{page, written};
 ghost use Rattle.replay.specs.Unused.{Unused};
 ghost use Rattle.replay.specs.Steps.{answer_text, made_text, last_text, taken_of, used_of, bench_after, stepped};
 
-use call_log::Taken;
 use call_made::{Answer, Bench};
 
 // The longest call: an FFT with 1,024 values in each slice.
@@ -36,6 +35,13 @@ struct Stepped {
 
 // ---- the text
 
+// The first n places of an area, and no more than it has.
+fn part<T>(area: &[T], n: usize) -> &[T]
+    ensures { result.now ≡ take n area.now }
+{
+    area.get(..n).unwrap_or(area)
+}
+
 // The text of call number count.
 fn put_answer(out: &mut [u8], at: usize, count: u64, kind: u8, answer: Answer) -> usize
     ensures { page out.new result ≡ written (page out.old at) (answer_text count kind answer) }
@@ -49,15 +55,12 @@ fn put_answer(out: &mut [u8], at: usize, count: u64, kind: u8, answer: Answer) -
         at,
         count,
         kind,
-        answer.number,
-        answer.index,
+        answer.told.number,
+        answer.told.index,
         e,
-        &x,
-        answer.m,
-        &y,
-        answer.n,
-        &z,
-        answer.o,
+        part(&x, answer.m),
+        part(&y, answer.n),
+        part(&z, answer.o),
     )
 }
 
@@ -92,13 +95,7 @@ fn taken(b: &[u8]) -> usize
     ensures value { result ≡ taken_of b.now }
     ensures upper_bound { result ≤ length b.now }
 {
-    if b.len() == 0 {
-        return 0;
-    }
-    let Taken::Whole(n) = call_log::call_taken(b) else {
-        return 0;
-    };
-    n
+    call_log::call_taken(b).unwrap_or(0)
 }
 
 // The call at the front of b, or the last line; neither where its text would find no room.
@@ -135,10 +132,8 @@ fn to_front(input: &mut [u8], from: usize, to: usize) -> usize
     ensures { result ≤ length input.new }
 {
     let n = to - from;
-    let mut i = 0;
-    while i < n {
+    for i in 0..n {
         input[i] = input[from + i];
-        i += 1;
     }
     n
 }
@@ -204,8 +199,7 @@ fn calls(rt: &HostRuntime, input: &mut [u8], out: &mut [u8], header: Input) -> u
     let mut unused = header;
     let mut bench = call_made::fresh();
     let mut at = 0;
-    let mut count = 0u64;
-    while count < u64::MAX {
+    for count in 0..u64::MAX {
         unused = ready(rt, input, unused);
         let from = unused.from;
         let to = unused.to;
@@ -216,7 +210,6 @@ fn calls(rt: &HostRuntime, input: &mut [u8], out: &mut [u8], header: Input) -> u
             return step.at;
         }
         at = room(rt, out, step.at);
-        count += 1;
     }
     at
 }
@@ -225,21 +218,22 @@ fn calls(rt: &HostRuntime, input: &mut [u8], out: &mut [u8], header: Input) -> u
 fn run(rt: &HostRuntime, input: &mut [u8], out: &mut [u8]) -> usize {
     let mut stdin = rt.stdin();
     let n = streams::read_full(&mut stdin, input);
-    let number = call_log::header_number(call_log::read_header(&input[..n]));
-    if number != refusals::ACCEPTED {
-        return call_text::put_last(out, 0, b"refused", number as u64);
+    match call_log::read_header(&input[..n]) {
+        Ok(()) => {
+            let is_over = n < input.len();
+            calls(
+                rt,
+                input,
+                out,
+                Input {
+                    from: 5,
+                    to: n,
+                    is_over,
+                },
+            )
+        }
+        Err(refusal) => call_text::put_last(out, 0, b"refused", refusal.number() as u64),
     }
-    let is_over = n < input.len();
-    calls(
-        rt,
-        input,
-        out,
-        Input {
-            from: 5,
-            to: n,
-            is_over,
-        },
-    )
 }
 
 fn main(rt: HostRuntime) {

@@ -14,11 +14,11 @@ fn read_some<R: Read>(from: &mut R, buf: &mut [u8]) -> usize
     ensures in_bounds { result ≤ length buf.new }
     ensures bytes { Consumes (R.remaining from.old) (R.remaining from.new) (take result buf.new) }
 {
-    match from.read(buf) {
-        Ok(n) => n,
-        Err(_) => 0,
-    }
+    from.read(buf).unwrap_or(0)
 }
+
+// Loops here go by what a call moved: a `for` over a range is no plainer, since a turn moves any
+// number of bytes.
 
 // Entry. Reads until buf is full, the input ends or a read fails, and says how many bytes it put at the start of buf. For an empty buf it reads nothing.
 pub fn read_full<R: Read>(from: &mut R, buf: &mut [u8]) -> usize
@@ -41,10 +41,7 @@ fn write_some<W: Write>(to: &mut W, buf: &[u8]) -> usize
     ensures in_bounds { result ≤ length buf.now }
     ensures bytes { Appends (W.contents to.old) (W.contents to.new) (take result buf.now) }
 {
-    match to.write(buf) {
-        Ok(n) => n,
-        Err(_) => 0,
-    }
+    to.write(buf).unwrap_or(0)
 }
 
 // Entry. Writes all of buf, and says so, or stops at the first write that takes nothing or fails: then some of buf may have gone out. For an empty buf it writes nothing.

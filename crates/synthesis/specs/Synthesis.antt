@@ -1,15 +1,15 @@
 -- Synthesis: one frame (`ModDiscreteCosTrans::run` of the decoder), and the calls of a channel: `clear`, and a frame by value (`frame`) and in place (`frame_at`). Definitions only.
-use Rattle.std.specs.Prelude.{ℕ, zero, suc, ◌-◌, not, cond, List, ◌++◌, ltb, eqb, length, get_or, replicate, Float}
+use Rattle.std.specs.Prelude.{ℕ, zero, suc, ◌-◌, not, cond, List, ◌++◌, ltb, eqb, length, get_or, replicate, Float, ⊤, Result}
 use Rattle.laws.specs.Lists.{tab, first}
 use Rattle.laws.specs.Passes.{passes6}
 use Rattle.config.specs.Config.{valid, nf, z, ne}
 use Rattle.refusals.specs.declared.Verdict.{Verdict}
+use Rattle.refusals.specs.declared.Refusal.{Refusal}
+use Rattle.refusals.specs.declared.Answered.{Answered}
 use Rattle.refusals.specs.Refusals as refusals
 use Rattle.laws.specs.Numbers.{zero32}
 use Rattle.synthesis_samples.specs.Samples.{samples_of, memory_of}
 use Rattle.synthesis.specs.declared.Channel.{Channel}
-use Rattle.synthesis.specs.declared.Cleared.{Cleared}
-use Rattle.synthesis.specs.declared.Framed.{Framed}
 
 -- ---- THE DEFINITION, refusals aside
 -- as a channel keeps it: +0.0 at the places that the configuration has no use for
@@ -30,6 +30,11 @@ abbrev pub silent : ℕ → Channel
 silent c = channel_of c (replicate 300 zero32)
 
 -- ---- `clear`
+-- what a clear gives: number, and a channel
+pub record Cleared : Type 0 where
+  pub number : ℕ
+  pub channel : Channel
+
 -- a number, and a channel of configuration c with nothing in its past
 abbrev pub cleared_as : ℕ → ℕ → Cleared
 cleared_as n c = record { number = n; channel = silent c }
@@ -79,10 +84,22 @@ frames ch x = framed (number ch.config x) ch x
 abbrev pub lent : List Float → List Float → Lent
 lent x s = record { lines = x; samples = s }
 
--- a call's return and the samples' slice at its end, as the definition has them
-abbrev pub outcome : Framed → List Float → Given × Channel
-outcome r s = (record { number = r.number; index = r.index; samples = s }, r.channel)
+-- the number and the index
+abbrev pub verdict : ℕ → Lent → Verdict
+verdict c x = record { number = number c x; index = index (number c x) x }
 
--- the same of a channel that stays where it is: its configuration c, and its memory at the call's end
-abbrev pub outcome_at : ℕ → Verdict → List Float → List Float → Given × Channel
-outcome_at c r m s = (record { number = r.number; index = r.index; samples = s }, channel_of c m)
+-- a clear's return, as the definition has it
+abbrev pub cleared_by : Answered Channel → Cleared
+cleared_by r = record { number = (refusals.told_by r.told).number; channel = r.channel }
+
+-- what a call gives beside the channel, by its verdict and the samples' slice at its end
+abbrev pub given : Verdict → List Float → Given
+given v s = record { number = v.number; index = v.index; samples = s }
+
+-- a call's return and the samples' slice at its end, as the definition has them
+abbrev pub outcome : Answered Channel → List Float → Given × Channel
+outcome r s = (given (refusals.told_by r.told) s, r.channel)
+
+-- the same of a channel that stays where it is: its configuration c, and its memory at the call's end; r is what is returned
+abbrev pub outcome_at : ℕ → Result ⊤ Refusal → List Float → List Float → Given × Channel
+outcome_at c r m s = (given (refusals.told_by r) s, channel_of c m)

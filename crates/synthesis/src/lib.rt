@@ -4,12 +4,12 @@
 
 #![tactic(auto)]
 
-ghost use Rattle.std.specs.Prelude.{◌≡◌, length, replicate};
-ghost use Rattle.laws.specs.Numbers.{zero32};
-ghost use Rattle.synthesis.specs.Synthesis.{kept_of, channel_of, channel_past, silent, cleared, number, index, frames, lent, outcome, outcome_at};
+ghost use Rattle.std.specs.Prelude.{◌≡◌, length};
+ghost use Rattle.refusals.specs.Refusals.{told_by};
+ghost use Rattle.synthesis.specs.Synthesis.{kept_of, channel_of, channel_past, silent, cleared, number, verdict, frames, lent, cleared_by, outcome, outcome_at};
 ghost use Rattle.synthesis_samples.specs.Samples.{samples_of};
 
-use refusals::Verdict;
+use refusals::{Answered, Refusal};
 
 // What a stream keeps between frames: the last places of the frame before, and zeros at the places that its configuration has no use for.
 #[repr(C)]
@@ -17,21 +17,6 @@ use refusals::Verdict;
 pub struct Channel {
     pub config: u8,
     pub memory: [f32; 300],
-}
-
-#[repr(C)]
-#[derive(Clone, Copy)]
-pub struct Cleared {
-    pub number: u8,
-    pub channel: Channel,
-}
-
-#[repr(C)]
-#[derive(Clone, Copy)]
-pub struct Framed {
-    pub number: u8,
-    pub index: usize,
-    pub channel: Channel,
 }
 
 impl Channel {
@@ -43,43 +28,39 @@ impl Channel {
     }
 }
 
-// A memory of zeros.
-fn silence() -> [f32; 300]
-    ensures { result ≡ replicate 300 zero32 }
-{
-    [0.0f32; 300]
-}
-
 // A channel with nothing in its past.
 fn silent(config: u8) -> Channel
     ensures { result ≡ silent config }
 {
-    Channel::new(config, silence())
+    Channel::new(config, [0.0f32; 300])
 }
 
-// Entry. A fresh channel; of a number that is no configuration, number 1 and a channel of configuration 255.
-pub fn clear(config: u8) -> Cleared
-    ensures { result ≡ cleared config }
+// Entry. A fresh channel; of a number that is no configuration, a refusal and a channel of configuration 255.
+// Not one function with analysis's: document 01 gives each its own kind of channel, and a trait that makes one, with its
+// definitions as members, would be longer than what it saves.
+pub fn clear(config: u8) -> Answered<Channel>
+    ensures { cleared_by result ≡ cleared config }
 {
     let told = refusals::on_clear(config);
-    Cleared {
-        number: told.number,
-        channel: silent(told.config),
+    let of = if told.is_ok() { config } else { 255 };
+    Answered {
+        told,
+        channel: silent(of),
     }
 }
 
-// The refusal of a call, in the order of document 01's table.
-fn refusal(c: u8, lines: &[f32], samples: &[f32]) -> Verdict
-    ensures { (result.number ≡ number c (lent lines.now samples.now)) × (result.index ≡ index result.number (lent lines.now samples.now)) }
+// Whether a call is refused, in the order of document 01's table.
+fn judge(c: u8, lines: &[f32], samples: &[f32]) -> Result<(), Refusal>
+    ensures { told_by result ≡ verdict c (lent lines.now samples.now) }
 {
     if !config::valid(c) {
-        return Verdict::told(refusals::BAD_CONFIG);
+        return Err(Refusal::BadConfig);
     }
     if lines.len() != config::ne(c) {
-        return Verdict::told(refusals::BAD_INPUT);
+        return Err(Refusal::BadInput);
     }
     if samples.len() != config::nf(c) {
-        return Verdict::told(refusals::BAD_OUTPUT);
+        return Err(Refusal::BadOutput);
     }
     refusals::on_values(lines)
 }
@@ -96,30 +77,30 @@ fn step(config: u8, lines: &[f32], memory: &mut [f32], samples: &mut [f32])
 }
 
 // Entry. A frame of lines to its samples, on a channel that stays where it is: its configuration, and its memory, lent. A refusal writes nothing.
-pub fn frame_at(config: u8, memory: &mut [f32; 300], lines: &[f32], samples: &mut [f32]) -> Verdict
+pub fn frame_at(
+    config: u8,
+    memory: &mut [f32; 300],
+    lines: &[f32],
+    samples: &mut [f32],
+) -> Result<(), Refusal>
     ensures { frames (channel_of config memory.old) (lent lines.now samples.old) ≡ outcome_at config result memory.new samples.new }
 {
-    let v = refusal(config, lines, samples);
-    if v.number == refusals::ACCEPTED {
-        step(config, lines, memory, samples);
-    }
-    v
+    judge(config, lines, samples)?;
+    step(config, lines, memory, samples);
+    Ok(())
 }
 
 impl Channel {
     // Entry. The same with the channel handed in and back.
-    pub fn frame(self, lines: &[f32], samples: &mut [f32]) -> Framed
+    pub fn frame(self, lines: &[f32], samples: &mut [f32]) -> Answered<Channel>
         ensures { frames self (lent lines.now samples.old) ≡ outcome result samples.new }
     {
         let config = self.config;
-        let mut framed = Framed {
-            number: refusals::ACCEPTED,
-            index: 0,
+        let mut answered = Answered {
+            told: Ok(()),
             channel: self,
         };
-        let v = frame_at(config, &mut framed.channel.memory, lines, samples);
-        framed.number = v.number;
-        framed.index = v.index;
-        framed
+        answered.told = frame_at(config, &mut answered.channel.memory, lines, samples);
+        answered
     }
 }

@@ -16,7 +16,7 @@ use Rattle.gains.specs.Gains.{gain, scaled}
 use Rattle.synthesis_steps.proofs.Places.{length-padded}
 use Rattle.synthesis_steps.proofs.Mirrors.{unfolded-scaled}
 use Rattle.synthesis_frame.specs.Frame.{places}
-use Rattle.synthesis_overlap.proofs.Made.{under}
+use Rattle.synthesis_overlap.specs.Overlap.{spread}
 use Rattle.synthesis_samples.specs.Samples.{places_of, samples_of, memory_of}
 
 -- the slices that a frame lends, for the DCT
@@ -28,17 +28,17 @@ module _ (c : ℕ) (v : T (valid c)) (x : List Float) (ex : length x ≡ ne c) {
   as_many : length (dct_iv (padded (nf c) x)) ≡ 2 * half c
   as_many = let s = sound c v in length-dct_iv (padded (nf c) x) ∙ length-padded (nf c) x (omega arith) ∙ s.even
 
-  made-places : under c y ≡ places_of c x
+  made-places : spread c y ≡ places_of c x
   unfolding places_of places
   made-places =
-      ap (under c) (ey ∙ ap (λ (m : ℕ). dct_iv (padded m x)) en)
+      ap (spread c) (ey ∙ ap (λ (m : ℕ). dct_iv (padded m x)) en)
       ∙ ap (windowed (window c)) (unfolded-scaled (half c) (gain (nf c)) (dct_iv (padded (nf c) x)) as_many)
       ∙ ap (λ (m : ℕ). windowed (window c) (scaled (gain (nf c)) (unfolded (half c) (dct_iv (padded m x))))) (sound c v).even
 
-  pub made-memory : {m : List Float} → m ≡ remains (nf c) (z c) (under c y) → m ≡ memory_of c x
+  pub made-memory : {m : List Float} → m ≡ remains (nf c) (z c) (spread c y) → m ≡ memory_of c x
   unfolding memory_of
   made-memory {m} e = e ∙ ap (remains (nf c) (z c)) made-places
 
-  pub made-samples : (past : List Float) {s : List Float} → s ≡ output (nf c) (z c) past (under c y) → s ≡ samples_of c past x
+  pub made-samples : (past : List Float) {s : List Float} → s ≡ output (nf c) (z c) past (spread c y) → s ≡ samples_of c past x
   unfolding samples_of
   made-samples past {s} e = e ∙ ap (output (nf c) (z c) past) made-places

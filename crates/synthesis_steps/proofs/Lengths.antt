@@ -1,14 +1,13 @@
 -- How long the samples and the memory of a frame are, and of which places they are. Assumes nothing.
-use mathlib.Core.Path.{◌≡◌, sym, ap, ◌∙◌}
+use mathlib.Core.Path.{◌≡◌, sym, ap, ap₂, ◌∙◌}
 use mathlib.Core.List.{List, ◌++◌, append-nil, zip_with}
 use Prim.Native.Nat.{ℕ, ◌+◌, ◌-◌, ◌*◌, ◌≤◌}
 use native.Mathlib.Omega.{arith}
 use lib.ListN.{length, take, drop, length-append, length-drop}
 use lib.Seq.{length-take-le, drop_at, take_all}
 use lib.Ieee.{Float, binary32, add}
-use borrow.Rule.Slice.PartMut.{mid_of, put_mid}
 use Rattle.synthesis_steps.specs.Places.{output, remains}
-use Rattle.synthesis_steps.proofs.Lists.{length-zip_with, second-lent, two-parts}
+use Rattle.synthesis_steps.proofs.Lists.{length-zip_with}
 
 module _ (n z : ℕ) (t : List Float) (b : z ≤ n) (e : length t ≡ 2 * n) where
   pub length-remains : length (remains n z t) ≡ n - z
@@ -28,13 +27,10 @@ module _ (n z : ℕ) (t : List Float) (b : z ≤ n) (e : length t ≡ 2 * n) whe
     unfolding output
     last-output = drop_at (zip_with (add binary32) m (take (n - z) (drop z t))) (take z (drop n t)) (n - z) sums
 
-    -- the first n - z places of l came back with the memory added, and the others as places n to n + z - 1
-    pub made-output : (l : List Float) {p q : List Float} → length l ≡ n → p ≡ zip_with (add binary32) m (take (n - z) (drop z t)) → q ≡ take (length (mid_of (n - z) (length (p ++ drop (n - z) l) - (n - z)) (p ++ drop (n - z) l))) (drop n t)
-        → put_mid (n - z) (length (p ++ drop (n - z) l) - (n - z)) (p ++ drop (n - z) l) q ≡ output n z m t
+    -- the samples, once the places n to n + z - 1 follow the sums
+    pub made-output : (k : ℕ) {p q : List Float} → p ≡ zip_with (add binary32) m (take (n - z) (drop z t)) → q ≡ take k (drop n t) → k ≡ z → p ++ q ≡ output n z m t
     unfolding output
-    made-output l k i j =
-        let r : length (drop (n - z) l) ≡ z = omega (arith, length-drop (n - z) l) in
-        two-parts (n - z) l i sums (j ∙ ap (λ (o : ℕ). take o (drop n t)) (ap length (second-lent (n - z) l i sums) ∙ r))
+    made-output k i j e = ap₂ (λ (x y : List Float). x ++ y) i (j ∙ ap (λ (k : ℕ). take k (drop n t)) e)
 
     pub made-remains : {r : List Float} → r ≡ take (length m) (drop (n + z) t) → r ≡ remains n z t
     unfolding remains

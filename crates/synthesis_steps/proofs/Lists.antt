@@ -63,15 +63,13 @@ length-zip_with f (x ∷ xs) [] e = absurd (none (length xs) e)
     none n e = omega arith
 length-zip_with f (x ∷ xs) (y ∷ ys) e = ap suc (length-zip_with f xs ys (omega arith))
 
--- two together, the second in two parts, the first of them of n places
-zip_with-append : {A B C : Type 0} (f : A → B → C) (xs : List A) (ys zs : List B) (n : ℕ) → length ys ≡ n → zip_with f xs (ys ++ zs) ≡ zip_with f (take n xs) ys ++ zip_with f (drop n xs) zs
+-- two together, each in two parts
+zip_with-append : {A B C : Type 0} (f : A → B → C) (xs us : List A) (ys zs : List B) → length xs ≡ length ys → zip_with f (xs ++ us) (ys ++ zs) ≡ zip_with f xs ys ++ zip_with f us zs
 unfolding zip_with
-zip_with-append {A} {B} {C} f xs ys zs n e = go xs ys ∙ ap (λ (k : ℕ). zip_with f (take k xs) ys ++ zip_with f (drop k xs) zs) e
-  where
-    go : (xs : List A) (ys : List B) → zip_with f xs (ys ++ zs) ≡ zip_with f (take (length ys) xs) ys ++ zip_with f (drop (length ys) xs) zs
-    go xs [] = refl
-    go [] (y ∷ ys) = refl
-    go (x ∷ xs) (y ∷ ys) = ap (λ (l : List C). f x y ∷ l) (go xs ys)
+zip_with-append f [] us [] zs e = refl
+zip_with-append f [] us (y ∷ ys) zs e = cc
+zip_with-append f (x ∷ xs) us [] zs e = cc
+zip_with-append {C = C} f (x ∷ xs) us (y ∷ ys) zs e = ap (λ (l : List C). f x y ∷ l) (zip_with-append f xs us ys zs (omega arith))
 
 -- a loop that wrote the places of t from `from` on
 pub filled_part : {A : Type 0} {l : List A} {i : ℕ} {out : List A} (d : A) (from : ℕ) (t : List A) → Filled (λ k. get_or t (from + k) d) l i out → i ≡ length l → from + length l ≤ length t → out ≡ take (length l) (drop from t)
@@ -87,36 +85,21 @@ module _ {A : Type 0} (n : ℕ) (l : List A) {p x : List A} (i : p ≡ x) (e : l
   pub two-parts : {q y : List A} → q ≡ y → put_mid n (length (p ++ drop n l) - n) (p ++ drop n l) q ≡ x ++ y
   two-parts {q} {y} j = put_tail n (p ++ drop n l) q ∙ ap (λ (r : List A). r ++ q) (take_at p (drop n l) n (ap length i ∙ e) ∙ i) ∙ ap (λ (r : List A). x ++ r) j
 
--- both parts of l are places of t, those of the second behind those of the first
-module _ {A : Type 0} (n : ℕ) (l : List A) (from to : ℕ) (t : List A) (b : n ≤ length l) (s : from + length l ≤ length t) (f : from + n ≡ to) where
-  firsts : length (take n (drop from t)) ≡ n
-  firsts = length-take-le n (drop from t) (omega (arith, length-drop from t))
-
-  -- what a call says of the first part, as long as the part that it was lent
-  lent-first : take (length (take n l)) (drop from t) ≡ take n (drop from t)
-  lent-first = ap (λ (k : ℕ). take k (drop from t)) (length-take-le n l b)
-
-  joined : take n (drop from t) ++ take (length (drop n l)) (drop to t) ≡ take (length l) (drop from t)
+-- places of t, those of q behind those of p
+module _ {A : Type 0} (a b from : ℕ) {c to : ℕ} (t : List A) (f : from + a ≡ to) (s : a + b ≡ c) where
+  joined : take a (drop from t) ++ take b (drop to t) ≡ take c (drop from t)
   joined =
-      let g : n + length (drop n l) ≡ length l = omega (arith, length-drop n l) in
-      ap (λ (r : List A). take n (drop from t) ++ take (length (drop n l)) r) (ap (λ (k : ℕ). drop k t) (sym f) ∙ sym (drop-drop n from t))
-      ∙ sym (take-add n (length (drop n l)) (drop from t))
-      ∙ ap (λ (k : ℕ). take k (drop from t)) g
+      ap (λ (r : List A). take a (drop from t) ++ take b r) (ap (λ (k : ℕ). drop k t) (sym f) ∙ sym (drop-drop a from t))
+      ∙ sym (take-add a b (drop from t))
+      ∙ ap (λ (k : ℕ). take k (drop from t)) s
 
-  pub two-places : {p q : List A} → p ≡ take (length (take n l)) (drop from t) → q ≡ take (length (mid_of n (length (p ++ drop n l) - n) (p ++ drop n l))) (drop to t)
-      → put_mid n (length (p ++ drop n l) - n) (p ++ drop n l) q ≡ take (length l) (drop from t)
-  two-places i j =
-      let i = i ∙ lent-first in
-      two-parts n l i firsts (j ∙ ap (λ (r : List A). take (length r) (drop to t)) (second-lent n l i firsts)) ∙ joined
+  pub two-places : {p q : List A} → p ≡ take a (drop from t) → q ≡ take b (drop to t) → p ++ q ≡ take c (drop from t)
+  two-places i j = ap₂ (λ (x y : List A). x ++ y) i j ∙ joined
 
-  -- the same with m added to them, or whatever the operation is
-  pub two_sums : (g : A → A → A) (m : List A) {p q : List A} → length m ≡ length l → p ≡ zip_with g (take n m) (take (length (take n l)) (drop from t))
-      → q ≡ zip_with g (mid_of n (length m - n) m) (take (length (mid_of n (length (p ++ drop n l) - n) (p ++ drop n l))) (drop to t))
-      → put_mid n (length (p ++ drop n l) - n) (p ++ drop n l) q ≡ zip_with g m (take (length l) (drop from t))
-  two_sums g m k i j =
-      let i = i ∙ ap (zip_with g (take n m)) lent-first in
-      let d = length-take-le n m (omega arith) in
-      let e = length-zip_with g (take n m) (take n (drop from t)) (d ∙ sym firsts) ∙ d in
-      two-parts n l i e (j ∙ ap₂ (λ (x y : List A). zip_with g x (take (length y) (drop to t))) (mid_tail n m) (second-lent n l i e))
-      ∙ sym (zip_with-append g m (take n (drop from t)) (take (length (drop n l)) (drop to t)) n firsts)
-      ∙ ap (zip_with g m) joined
+  -- the same with x and y added to them, or whatever the operation is
+  pub two_sums : (g : A → A → A) (m x y : List A) {p q : List A} → to ≤ length t → m ≡ x ++ y → length x ≡ a
+      → p ≡ zip_with g x (take a (drop from t)) → q ≡ zip_with g y (take b (drop to t)) → p ++ q ≡ zip_with g m (take c (drop from t))
+  two_sums g m x y h k e i j =
+      ap₂ (λ (x y : List A). x ++ y) i j
+      ∙ sym (zip_with-append g x y (take a (drop from t)) (take b (drop to t)) (e ∙ sym (length-take-le a (drop from t) (omega (arith, length-drop from t)))))
+      ∙ ap₂ (zip_with g) (sym k) joined

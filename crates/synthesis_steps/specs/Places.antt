@@ -21,6 +21,10 @@ unfolded h b = drop h (mirrored b) ++ map neg (take h (mirrored b))
 unfoldable pub windowed : List ℕ → List Float → List Float
 windowed w t = zip_with (mul binary32) t (map (of_bits binary32) (reverse w))
 
+-- the places of the values b and the window w, in one word
+abbrev pub places : ℕ → List Float → List ℕ → List Float
+places h b w = windowed w (unfolded h b)
+
 -- overlap_add: memory + places z to n - 1, then places n to n + z - 1 as they are
 unfoldable pub output : ℕ → ℕ → List Float → List Float → List Float
 output n z m t = zip_with (add binary32) m (take (n - z) (drop z t)) ++ take z (drop n t)

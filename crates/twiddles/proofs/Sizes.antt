@@ -1,22 +1,21 @@
 -- The sizes of the twiddles are the FFT sizes of the configurations, and each table has as many entries as its size: computed tests over the
 -- sizes, and a law at each. Assumes nothing.
-use mathlib.Core.Path.{◌≡◌, sym, ap, ap₂, ◌∙◌}
-use mathlib.Core.Bool.{Bool, ◌&&◌}
-use mathlib.Core.List.{List, ◌++◌}
-use Prim.Native.Nat.{ℕ, ◌+◌, ◌-◌}
+use mathlib.Core.Path.{◌≡◌, refl, sym, ap, ap₂, ◌∙◌}
+use mathlib.Core.Bool.{Bool, cond, ◌&&◌}
+use mathlib.Core.List.{List, [], ◌++◌}
+use Prim.Native.Nat.{ℕ, ◌+◌}
 use lib.Dec.{T, eqb, eqb→eq}
 use lib.ListN.{length, take, drop, length-append}
 use lib.Seq.{take-append_seam, drop-append_seam}
 use lib.Ieee.{Float}
 use lib.Ieee.Fits.{and_l, and_r}
-use borrow.Rule.Slice.PartMut.{mid_of}
-use Rattle.laws.proofs.Parts.{mid_tail}
+use lib.Ieee.Bits.{is_true}
 use Rattle.laws.proofs.Table.{every}
 use Rattle.config.specs.Tables.{rows}
 use Rattle.config.specs.Config.{row, half, among, fft_sizes}
 use Rattle.config.proofs.Among.{at-among, same_among}
 use Rattle.twiddles.specs.Tables.{sizes, fft_re_bits, fft_im_bits, dct_re_bits, dct_im_bits}
-use Rattle.twiddles.specs.Twiddles.{start, fft_re, fft_im, dct_re, dct_im, dct_table}
+use Rattle.twiddles.specs.Twiddles.{start, fft_re, fft_im, dct_re, dct_im, dct_table, dct_lent}
 
 ours : T (every (λ k n. among sizes n) 0 fft_sizes)
 unfolding sizes fft_sizes half row rows
@@ -55,22 +54,26 @@ sized n s =
       dct-im = eqb→eq (length (dct_im n)) n (and_r (eqb (length (dct_re n)) n) _ t3);
     }
 
--- what the code's tables of a size hold
+-- what the code's tables of a size hold: n real parts, then n imaginary parts
 pub record Halved (n : ℕ) (re im t : List Float) : Type 0 where
   pub re_is : take n t ≡ re
-  pub im_is : mid_of n (length t - n) t ≡ im
+  pub im_is : drop n t ≡ im
   pub re_fits : length (take n t) ≡ n
-  pub im_fits : length (mid_of n (length t - n) t) ≡ n
+  pub im_fits : length (drop n t) ≡ n
   pub fits : length t ≡ n + n
 
 pub halved : (n : ℕ) (re im t : List Float) → t ≡ re ++ im → length re ≡ n → length im ≡ n → Halved n re im t
 halved n re im t e l m =
     let r : take n t ≡ re = ap₂ take (sym l) e ∙ take-append_seam re im in
-    let i : mid_of n (length t - n) t ≡ im = mid_tail n t ∙ ap₂ drop (sym l) e ∙ drop-append_seam re im in
+    let i : drop n t ≡ im = ap₂ drop (sym l) e ∙ drop-append_seam re im in
     record { re_is = r; im_is = i; re_fits = ap length r ∙ l; im_fits = ap length i ∙ m; fits = ap length e ∙ length-append re im ∙ ap₂ ◌+◌ l m }
 
-pub dct_halves : (n : ℕ) → T (among fft_sizes n) → (t : List Float) → t ≡ dct_table n → Halved n (dct_re n) (dct_im n) t
-unfolding dct_table
+-- what is lent at a size
+pub lent_at : {A : Type 0} (n : ℕ) (l : List A) → T (among fft_sizes n) → cond (among fft_sizes n) l [] ≡ l
+lent_at n l s = rw (is_true (among fft_sizes n) s) refl
+
+pub dct_halves : (n : ℕ) → T (among fft_sizes n) → (t : List Float) → t ≡ dct_lent n → Halved n (dct_re n) (dct_im n) t
+unfolding dct_table dct_lent
 dct_halves n s t e =
     let tables = sized n (rw (same_sizes n) at s) in
-    halved n (dct_re n) (dct_im n) t e tables.dct-re tables.dct-im
+    halved n (dct_re n) (dct_im n) t (e ∙ lent_at n (dct_table n) s) tables.dct-re tables.dct-im

@@ -2,6 +2,7 @@
 use Rattle.std.specs.Prelude.{Bool, true, false, cond, List, [], ◌∷◌, ◌++◌, map, ℕ, ◌+◌, ltb, take, drop, Float}
 use Rattle.std.specs.Float.{binary32}
 use Rattle.std.specs.Float.Ieee.{of_bits, neg}
+use Rattle.config.specs.Config.{among, fft_sizes}
 use Rattle.complex.specs.declared.Complex.{Complex}
 use Rattle.complex.specs.Complex.{at}
 use Rattle.twiddles.specs.Tables.{sizes, fft_re_bits, fft_im_bits, dct_re_bits, dct_im_bits}
@@ -45,6 +46,10 @@ dct_im n = part dct_im_bits n
 -- the table of size n as the code has it: the real parts, then the imaginary parts
 unfoldable pub dct_table : ℕ → List Float
 dct_table n = dct_re n ++ dct_im n
+
+-- what the code lends: the table of a size that a configuration has, and nothing at any other number
+unfoldable pub dct_lent : ℕ → List Float
+dct_lent n = cond (among fft_sizes n) (dct_table n) []
 
 -- DCT twiddle k of n
 unfoldable pub dct_twiddle : ℕ → ℕ → Complex

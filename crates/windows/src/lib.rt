@@ -1,6 +1,7 @@
 // The windows of the configurations as bits, and the reading of one entry.
-// The bits are liblc3's, as data/README.md says; the names are those by which lc3-codec 0.2.0 uses its windows (src/encoder/modified_dct.rs), and of 5 and
-// 2.5 ms, which it does not have, of the same form; of functions in place of constants.
+// The bits are liblc3's, as data/README.md says; the names are those by which lc3-codec 0.2.0 uses
+// its windows (src/encoder/modified_dct.rs), and of 5 and 2.5 ms, which it does not have, of the
+// same form.
 
 #![tactic(auto)]
 
@@ -11,11 +12,7 @@ ghost use Rattle.windows.specs.Windows.{Numbers};
 
 mod tables; // tables.rt: a table for each configuration
 
-pub use tables::{
-    w_n20_2p5ms, w_n40_2p5ms, w_n40_5ms, w_n60_2p5ms, w_n60_7p5ms, w_n80_2p5ms, w_n80_5ms,
-    w_n80_10ms, w_n120_2p5ms, w_n120_5ms, w_n120_7p5ms, w_n160_5ms, w_n160_10ms, w_n180_7p5ms,
-    w_n240_5ms, w_n240_7p5ms, w_n240_10ms, w_n320_10ms, w_n360_7p5ms, w_n480_10ms,
-};
+pub use tables::window;
 
 // Inner. Entry k of a window, as the number that its bits are.
 pub fn weight(w: &[u32], k: usize) -> f32

@@ -1,9 +1,9 @@
-// The window of each configuration as bits, made by a function that a caller calls once. Written by tools/tables from data/windows.txt and
+// The window of each configuration as bits. Written by tools/tables from data/windows.txt and
 // data/windows_short.txt.
 ghost use Rattle.std.specs.Prelude.{◌≡◌};
 ghost use Rattle.windows.specs.Windows.{window};
 
-const W_N60_7P5MS: [u32; 120] = [
+static W_N60_7P5MS: [u32; 120] = [
     0x3b41_5eff,
     0x3beb_1fb6,
     0x3c61_99a0,
@@ -126,14 +126,7 @@ const W_N60_7P5MS: [u32; 120] = [
     0x0000_0000,
 ];
 
-// Entry. The window of configuration 0.
-pub fn w_n60_7p5ms() -> [u32; 120]
-    ensures { result ≡ window 0 }
-{
-    W_N60_7P5MS
-}
-
-const W_N120_7P5MS: [u32; 240] = [
+static W_N120_7P5MS: [u32; 240] = [
     0x3b10_b844,
     0x3b79_b39d,
     0x3bc1_d705,
@@ -376,14 +369,7 @@ const W_N120_7P5MS: [u32; 240] = [
     0x0000_0000,
 ];
 
-// Entry. The window of configuration 1.
-pub fn w_n120_7p5ms() -> [u32; 240]
-    ensures { result ≡ window 1 }
-{
-    W_N120_7P5MS
-}
-
-const W_N180_7P5MS: [u32; 360] = [
+static W_N180_7P5MS: [u32; 360] = [
     0x3b01_295c,
     0x3b41_5eff,
     0x3b87_269f,
@@ -746,14 +732,7 @@ const W_N180_7P5MS: [u32; 360] = [
     0x0000_0000,
 ];
 
-// Entry. The window of configuration 2.
-pub fn w_n180_7p5ms() -> [u32; 360]
-    ensures { result ≡ window 2 }
-{
-    W_N180_7P5MS
-}
-
-const W_N240_7P5MS: [u32; 480] = [
+static W_N240_7P5MS: [u32; 480] = [
     0x3af2_43ad,
     0x3b28_1683,
     0x3b5c_b34f,
@@ -1236,14 +1215,7 @@ const W_N240_7P5MS: [u32; 480] = [
     0x0000_0000,
 ];
 
-// Entry. The window of configuration 3.
-pub fn w_n240_7p5ms() -> [u32; 480]
-    ensures { result ≡ window 3 }
-{
-    W_N240_7P5MS
-}
-
-const W_N360_7P5MS: [u32; 720] = [
+static W_N360_7P5MS: [u32; 720] = [
     0x3ae1_a4da,
     0x3b10_b844,
     0x3b30_3a3a,
@@ -1966,14 +1938,7 @@ const W_N360_7P5MS: [u32; 720] = [
     0x0000_0000,
 ];
 
-// Entry. The window of configuration 4.
-pub fn w_n360_7p5ms() -> [u32; 720]
-    ensures { result ≡ window 4 }
-{
-    W_N360_7P5MS
-}
-
-const W_N80_10MS: [u32; 160] = [
+static W_N80_10MS: [u32; 160] = [
     0xba39_8f53,
     0xbb09_81eb,
     0xbb94_481d,
@@ -2136,14 +2101,7 @@ const W_N80_10MS: [u32; 160] = [
     0x0000_0000,
 ];
 
-// Entry. The window of configuration 5.
-pub fn w_n80_10ms() -> [u32; 160]
-    ensures { result ≡ window 5 }
-{
-    W_N80_10MS
-}
-
-const W_N160_10MS: [u32; 320] = [
+static W_N160_10MS: [u32; 320] = [
     0xb9f2_373b,
     0xba7f_8421,
     0xbada_2a73,
@@ -2466,14 +2424,7 @@ const W_N160_10MS: [u32; 320] = [
     0x0000_0000,
 ];
 
-// Entry. The window of configuration 6.
-pub fn w_n160_10ms() -> [u32; 320]
-    ensures { result ≡ window 6 }
-{
-    W_N160_10MS
-}
-
-const W_N240_10MS: [u32; 480] = [
+static W_N240_10MS: [u32; 480] = [
     0xb9bd_7387,
     0xba39_8f53,
     0xba8c_d459,
@@ -2956,14 +2907,7 @@ const W_N240_10MS: [u32; 480] = [
     0x0000_0000,
 ];
 
-// Entry. The window of configuration 7.
-pub fn w_n240_10ms() -> [u32; 480]
-    ensures { result ≡ window 7 }
-{
-    W_N240_10MS
-}
-
-const W_N320_10MS: [u32; 640] = [
+static W_N320_10MS: [u32; 640] = [
     0xb99e_653c,
     0xba19_d1b8,
     0xba5b_52a8,
@@ -3606,14 +3550,7 @@ const W_N320_10MS: [u32; 640] = [
     0x0000_0000,
 ];
 
-// Entry. The window of configuration 8.
-pub fn w_n320_10ms() -> [u32; 640]
-    ensures { result ≡ window 8 }
-{
-    W_N320_10MS
-}
-
-const W_N480_10MS: [u32; 960] = [
+static W_N480_10MS: [u32; 960] = [
     0xb976_bbba,
     0xb9f2_373b,
     0xba24_2dd2,
@@ -4576,14 +4513,7 @@ const W_N480_10MS: [u32; 960] = [
     0x0000_0000,
 ];
 
-// Entry. The window of configuration 9.
-pub fn w_n480_10ms() -> [u32; 960]
-    ensures { result ≡ window 9 }
-{
-    W_N480_10MS
-}
-
-const W_N40_5MS: [u32; 80] = [
+static W_N40_5MS: [u32; 80] = [
     0x3a82_8926,
     0x3b7a_4924,
     0x3c1c_5127,
@@ -4666,14 +4596,7 @@ const W_N40_5MS: [u32; 80] = [
     0x0000_0000,
 ];
 
-// Entry. The window of configuration 10.
-pub fn w_n40_5ms() -> [u32; 80]
-    ensures { result ≡ window 10 }
-{
-    W_N40_5MS
-}
-
-const W_N80_5MS: [u32; 160] = [
+static W_N80_5MS: [u32; 160] = [
     0x3a21_0b95,
     0x3ac3_3e1b,
     0x3b3d_0340,
@@ -4836,14 +4759,7 @@ const W_N80_5MS: [u32; 160] = [
     0x0000_0000,
 ];
 
-// Entry. The window of configuration 11.
-pub fn w_n80_5ms() -> [u32; 160]
-    ensures { result ≡ window 11 }
-{
-    W_N80_5MS
-}
-
-const W_N120_5MS: [u32; 240] = [
+static W_N120_5MS: [u32; 240] = [
     0x3a05_5bcf,
     0x3a82_8926,
     0x3adc_7d89,
@@ -5086,14 +5002,7 @@ const W_N120_5MS: [u32; 240] = [
     0x0000_0000,
 ];
 
-// Entry. The window of configuration 12.
-pub fn w_n120_5ms() -> [u32; 240]
-    ensures { result ≡ window 12 }
-{
-    W_N120_5MS
-}
-
-const W_N160_5MS: [u32; 320] = [
+static W_N160_5MS: [u32; 320] = [
     0x39f0_f4f1,
     0x3a4f_99ae,
     0x3aa0_f266,
@@ -5416,14 +5325,7 @@ const W_N160_5MS: [u32; 320] = [
     0x0000_0000,
 ];
 
-// Entry. The window of configuration 13.
-pub fn w_n160_5ms() -> [u32; 320]
-    ensures { result ≡ window 13 }
-{
-    W_N160_5MS
-}
-
-const W_N240_5MS: [u32; 480] = [
+static W_N240_5MS: [u32; 480] = [
     0x39d6_707b,
     0x3a21_0b95,
     0x3a60_b41b,
@@ -5906,14 +5808,7 @@ const W_N240_5MS: [u32; 480] = [
     0x0000_0000,
 ];
 
-// Entry. The window of configuration 14.
-pub fn w_n240_5ms() -> [u32; 480]
-    ensures { result ≡ window 14 }
-{
-    W_N240_5MS
-}
-
-const W_N20_2P5MS: [u32; 40] = [
+static W_N20_2P5MS: [u32; 40] = [
     0x3bdc_c9b9,
     0x3cdf_d444,
     0x3d7c_759f,
@@ -5956,14 +5851,7 @@ const W_N20_2P5MS: [u32; 40] = [
     0x3bdc_c9b9,
 ];
 
-// Entry. The window of configuration 15.
-pub fn w_n20_2p5ms() -> [u32; 40]
-    ensures { result ≡ window 15 }
-{
-    W_N20_2P5MS
-}
-
-const W_N40_2P5MS: [u32; 80] = [
+static W_N40_2P5MS: [u32; 80] = [
     0x3b9c_1ed2,
     0x3c45_5e1c,
     0x3cb6_62eb,
@@ -6046,14 +5934,7 @@ const W_N40_2P5MS: [u32; 80] = [
     0x3b9c_1ed2,
 ];
 
-// Entry. The window of configuration 16.
-pub fn w_n40_2p5ms() -> [u32; 80]
-    ensures { result ≡ window 16 }
-{
-    W_N40_2P5MS
-}
-
-const W_N60_2P5MS: [u32; 120] = [
+static W_N60_2P5MS: [u32; 120] = [
     0x3b7e_f19f,
     0x3c06_642d,
     0x3c60_7fd8,
@@ -6176,14 +6057,7 @@ const W_N60_2P5MS: [u32; 120] = [
     0x3b7e_f19f,
 ];
 
-// Entry. The window of configuration 17.
-pub fn w_n60_2p5ms() -> [u32; 120]
-    ensures { result ≡ window 17 }
-{
-    W_N60_2P5MS
-}
-
-const W_N80_2P5MS: [u32; 160] = [
+static W_N80_2P5MS: [u32; 160] = [
     0x3b5c_c9be,
     0x3bd3_8924,
     0x3c26_2f2a,
@@ -6346,14 +6220,7 @@ const W_N80_2P5MS: [u32; 160] = [
     0x3b5c_c9be,
 ];
 
-// Entry. The window of configuration 18.
-pub fn w_n80_2p5ms() -> [u32; 160]
-    ensures { result ≡ window 18 }
-{
-    W_N80_2P5MS
-}
-
-const W_N120_2P5MS: [u32; 240] = [
+static W_N120_2P5MS: [u32; 240] = [
     0x3b34_45de,
     0x3b9c_79a9,
     0x3be5_16fc,
@@ -6596,9 +6463,32 @@ const W_N120_2P5MS: [u32; 240] = [
     0x3b34_45de,
 ];
 
-// Entry. The window of configuration 19.
-pub fn w_n120_2p5ms() -> [u32; 240]
-    ensures { result ≡ window 19 }
+// Entry. The window of a configuration, and no entries for a number that is none. A match, since a
+// static refers to no other.
+pub fn window(c: u8) -> &'static [u32]
+    ensures { result.now ≡ window c }
 {
-    W_N120_2P5MS
+    match c {
+        0 => &W_N60_7P5MS,
+        1 => &W_N120_7P5MS,
+        2 => &W_N180_7P5MS,
+        3 => &W_N240_7P5MS,
+        4 => &W_N360_7P5MS,
+        5 => &W_N80_10MS,
+        6 => &W_N160_10MS,
+        7 => &W_N240_10MS,
+        8 => &W_N320_10MS,
+        9 => &W_N480_10MS,
+        10 => &W_N40_5MS,
+        11 => &W_N80_5MS,
+        12 => &W_N120_5MS,
+        13 => &W_N160_5MS,
+        14 => &W_N240_5MS,
+        15 => &W_N20_2P5MS,
+        16 => &W_N40_2P5MS,
+        17 => &W_N60_2P5MS,
+        18 => &W_N80_2P5MS,
+        19 => &W_N120_2P5MS,
+        20..=255 => &[],
+    }
 }

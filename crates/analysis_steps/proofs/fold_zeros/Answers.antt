@@ -8,10 +8,10 @@ use Rattle.analysis_steps.specs.Runs.{low}
 use Rattle.analysis_steps.proofs.fold_zeros.Goals as goal
 
 pub loop-i-init : goal.loop-i-init
-loop-i-init c = (omega arith, filled_none _ _)
+loop-i-init c = filled_none _ _
 
 pub loop-i-preserved : goal.loop-i-preserved
-loop-i-preserved c = (omega arith, filled_more _ nan c.loop-i.invariant.1 (omega arith) (ap₂ (λ (a b : Float). low a (mul binary32 zero32 b)) c.weighed.ensures c.weight.ensures))
+loop-i-preserved c = filled_more _ nan c.loop-i.invariant (omega arith) (ap₂ (λ (a b : Float). low a (mul binary32 zero32 b)) c.weighed.ensures c.weight.ensures)
 
 pub returns : goal.returns
-returns c = filled_all c.loop-i.invariant.1 (omega arith)
+returns c = filled_all c.loop-i.invariant (omega arith)

@@ -1,5 +1,5 @@
 -- `fold_zeros` meets its contract. The loop's invariant: the first i places of `out` are filled. Assumes nothing.
-use Prim.Native.Nat.{ℕ, ◌+◌, ◌-◌, ◌≤◌}
+use Prim.Native.Nat.{ℕ, ◌+◌, ◌-◌}
 use lib.ListN.{length}
 use Rattle.laws.proofs.Lists.{Filled}
 use Rattle.analysis_steps.specs.Fold.{weighed}
@@ -7,7 +7,4 @@ use Rattle.analysis_steps.specs.Runs.{low, still}
 use Rattle.analysis_steps.proofs.fold_zeros.Given as goal
 
 abbrev pub invariant-loop-i : goal.invariant-loop-i
-invariant-loop-i l = (l.i ≤ length l.initial.out) × Filled (λ (k : ℕ). low (weighed l.x l.w (l.from - 1 - k)) (still l.w (length l.x + k))) l.initial.out l.i l.out
-
-abbrev pub decreases-loop-i : goal.decreases-loop-i
-decreases-loop-i l = length l.initial.out - l.i
+invariant-loop-i l = Filled (λ (k : ℕ). low (weighed l.x.t.now l.x.w.now (l.from - 1 - k)) (still l.x.w.now (length l.x.t.now + k))) l.initial.out l.i l.out

@@ -1,4 +1,4 @@
--- `call_log::floats` meets its contract. The invariant: the places passed hold the values (`Filled`). The measure is what is left. Assumes nothing.
+-- `call_log::floats` meets its contract. The invariant: the places passed hold the values (`Filled`). Assumes nothing.
 use mathlib.Core.Path.{ap, ◌∙◌}
 use native.Mathlib.Omega.{arith}
 use lib.Ieee.{nan, binary32, of_bits}
@@ -7,11 +7,10 @@ use Rattle.call_log.specs.Log.{word}
 use Rattle.call_log.proofs.floats.Goals as goal
 
 pub loop-i-init : goal.loop-i-init
-loop-i-init c = (omega arith, filled_none _ _)
+loop-i-init c = filled_none _ _
 
 pub loop-i-preserved : goal.loop-i-preserved
-loop-i-preserved c = let l = c.loop-i in
-    (omega arith, filled_more _ nan l.invariant.1 (omega arith) (c.float.ensures ∙ ap (of_bits binary32) (c.word.ensures ∙ ap word c.rest.ensures)))
+loop-i-preserved c = filled_more _ nan c.loop-i.invariant (omega arith) (c.float.ensures ∙ ap (of_bits binary32) (c.word.ensures ∙ ap word c.rest.ensures))
 
 pub returns : goal.returns
-returns c = filled_all c.loop-i.invariant.1 (omega arith)
+returns c = filled_all c.loop-i.invariant (omega arith)

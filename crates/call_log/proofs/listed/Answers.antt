@@ -11,19 +11,19 @@ use borrow.Author.Tests.{le-leb, lt-leb}
 use Rattle.call_log.proofs.listed.Goals as goal
 
 pub overflow_mul-width : goal.overflow_mul-width
-overflow_mul-width c = omega (arith, mul-le-mul_right c.short-n.result c.requires)
+overflow_mul-width c = omega (arith, c.from-n.ensures, mul-le-mul_right c.from-n.result c.requires)
 
 pub overflow_add-width : goal.overflow_add-width
-overflow_add-width c = omega (arith, mul-le-mul_right c.short-n.result c.requires)
+overflow_add-width c = omega (arith, c.from-n.ensures, mul-le-mul_right c.from-n.result c.requires)
 
 pub returns-then-n-most : goal.returns-then-n-most
 returns-then-n-most c = let a = c.args in
     let b = a.b.now in
-    let e = c.short-n.ensures in
+    let e = c.from-n.ensures ∙ c.short.ensures in
     c.within.ensures ∙ ap (λ (n : ℕ). within b (2 + a.width * n)) e ∙ sym (ap (λ (t : Bool). pick t (within b (2 + a.width * short b))) (ap (λ (n : ℕ). leb n a.most) (sym e) ∙ le-leb _ _ c.if-n-most.true))
 
 pub returns-else-n-most : goal.returns-else-n-most
 returns-else-n-most c = let a = c.args in
     let b = a.b.now in
-    let e = c.short-n.ensures in
+    let e = c.from-n.ensures ∙ c.short.ensures in
     sym (ap (λ (t : Bool). pick t (within b (2 + a.width * short b))) (ap (λ (n : ℕ). leb n a.most) (sym e) ∙ lt-leb _ _ c.if-n-most.false))

@@ -1,7 +1,7 @@
 -- `call_made::analyse` meets its contract: the measurement comes after the frame, with the length that follows the frame's. Assumes nothing.
 use mathlib.Core.Path.{ap, ◌∙◌}
 use lib.ListN.{drop}
-use Rattle.call_made.specs.Made.{past_samples, analysed, measure_after, both, analyse}
+use Rattle.call_made.specs.Made.{past_samples, called, measure_after, both, analyse}
 use Rattle.call_made.proofs.analyse.Goals as goal
 
 pub measure_after-energies-requires : goal.measure_after-energies-requires
@@ -13,5 +13,5 @@ returns c = let s = c in
     let a = s.args in
     let f = s.frame-framed in
     let e = c.rest-2.ensures ∙ ap (drop 2) (c.past_samples-lengths.ensures ∙ ap past_samples s.rest.ensures) in
-    ap (analysed f.result.channel) (c.both.ensures ∙ ap (both f.result.answer) c.measure_after-energies.ensures)
-    ∙ (λ j. let r = f.ensures.value j in analysed r.channel (both r.answer (measure_after a.channel.config r.answer (e j))))
+    ap (called f.result.channel) (c.both.ensures ∙ ap (both f.result.answer) c.measure_after-energies.ensures)
+    ∙ (λ j. let r = f.ensures.value j in called r.channel (both r.answer (measure_after a.channel.config r.answer (e j))))

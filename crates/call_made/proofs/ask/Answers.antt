@@ -8,4 +8,4 @@ use Rattle.call_made.proofs.ask.Goals as goal
 pub returns : goal.returns
 returns c = let s = c in
     let b = s.args.b.now in
-    read_of (ask_on (get_or b 1 0)) (float_of (drop 2 b)) (lends s.area-room.ensures s.rest.ensures s.count_floats-k.ensures) c.ask_on.ensures.value
+    read_of (ask_on (get_or b 1 0)) (float_of (drop 2 b)) (lends s.area-room.ensures s.rest.ensures s.count_places-k.ensures) c.ask_on.ensures.value

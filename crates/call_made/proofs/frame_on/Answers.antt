@@ -9,7 +9,7 @@ use Rattle.call_made.proofs.frame_on.Goals as goal
 pub returns : goal.returns
 returns c = let f = c.frame-framed in
     let s = c in
-    let l = lends s.area-x.ensures s.past_samples.ensures s.count_floats-m.ensures in
+    let l = lends s.area-x.ensures s.past_samples.ensures s.count_places-m.ensures in
     let read = s.samples.ensures in
-    let places = subst (λ (a : Answer). Places a.m a.x) (sym c.one_area.ensures) (still _ _ f.new.lines s.count_floats-m.ensures.places f.auto.lines) in
-    record { value = framed_is _ f.result _ read l f.ensures c.one_area.ensures; places = places; input_after = read }
+    let places = subst (λ (a : Answer). Places a.m a.x) (sym c.one_area.ensures) (still _ _ f.new.lines s.count_places-m.ensures.places f.auto.lines) in
+    record { value = framed_is _ f.result _ read l f.ensures c.told-number.ensures c.one_area.ensures; places = places; input_after = read }

@@ -9,5 +9,5 @@ use Rattle.call_made.proofs.measure.Goals as goal
 pub returns : goal.returns
 returns c = let s = c in
     let e = s.rest-input.ensures in
-    let l = lends s.area-room.ensures e s.count_floats-k.ensures in
+    let l = lends s.area-room.ensures e s.count_places-k.ensures in
     c.measure_read.ensures.value ∙ (λ j. measure_on (c.byte_at.ensures j) (tab (l.long j) (float_of (e j))) (past_floats (e j)))

@@ -8,6 +8,6 @@ pub returns : goal.returns
 returns c = let f = c.measure-measured in
     let s = c in
     let t = c in
-    let u = lends t.area-x.ensures refl t.count_floats-m.ensures in
+    let u = lends t.area-x.ensures refl t.count_places-m.ensures in
     let v = lends t.peaks-z.ensures s.rest.ensures s.count_places-o.ensures in
-    measured-is _ _ f.result _ _ u v f.ensures c.with_peaks.ensures
+    measured-is _ _ f.result _ _ u v f.ensures c.told.ensures c.unwrap_or-flag.ensures c.with_peaks.ensures

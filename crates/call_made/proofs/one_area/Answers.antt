@@ -7,4 +7,4 @@ use Rattle.call_made.proofs.one_area.Goals as goal
 
 pub returns : goal.returns
 returns c = let a = c.args in
-    c.with_peaks.ensures ∙ ap (λ (z : List ℕ). with_peaks a.number a.index a.extra a.x a.m z 0) c.peaks.ensures.value
+    c.with_peaks.ensures ∙ ap (λ (z : List ℕ). with_peaks a.told.number a.told.index a.extra a.x a.m z 0) c.peaks.ensures.value

@@ -9,5 +9,5 @@ use Rattle.call_made.proofs.play.Goals as goal
 pub returns : goal.returns
 returns c = let s = c in
     let e = s.rest-input.ensures in
-    let l = lends s.area-room.ensures e s.count_floats-k.ensures in
+    let l = lends s.area-room.ensures e s.count_places-k.ensures in
     c.play_on.ensures.value ∙ (λ j. play_on s.args.channel (tab (l.long j) (float_of (e j))) (past_floats (e j)))

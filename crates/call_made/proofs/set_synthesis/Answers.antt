@@ -1,12 +1,12 @@
 -- `call_made::set_synthesis` meets its contract: the places that are read into, and the rest zero. Assumes nothing.
-use mathlib.Core.Path.{◌∙◌}
+use mathlib.Core.Path.{refl, ◌∙◌}
 use Rattle.call_log.specs.Log.{float_of}
-use Rattle.call_made.specs.Made.{plain, played, set_synthesis}
+use Rattle.call_made.specs.Made.{plain, called, set_synthesis}
 use Rattle.call_made.proofs.Lends.{read_into}
 use Rattle.call_made.proofs.set_synthesis.Goals as goal
 
 pub returns : goal.returns
 unfolding set_synthesis
 returns c = let s = c in
-    let all = read_into float_of s.floats_300-memory.ensures s.rest-input.ensures s.count_floats-k.ensures c.floats.ensures in
-    c.played_as.ensures ∙ (λ j. played (record { config = c.byte_at-config.ensures j; memory = all j }) (plain 0))
+    let all = read_into float_of (record { value = refl; places = refl }) s.rest-input.ensures s.count_places-k.ensures c.floats.ensures in
+    c.called_as.ensures ∙ (λ j. called (record { config = c.byte_at-config.ensures j; memory = all j }) (plain 0))

@@ -7,4 +7,4 @@ use Rattle.call_made.proofs.with_peaks.Goals as goal
 
 pub returns : goal.returns
 returns c = let a = c.args in
-    ap (λ (y : List Float). answer_of a.number a.index a.extra a.x a.m y 0 a.z a.o) c.area.ensures.value
+    ap (λ (y : List Float). answer_of a.told.number a.told.index a.extra a.x a.m y 0 a.z a.o) c.area.ensures.value

@@ -1,12 +1,9 @@
--- `call_text::put_show` meets its contract: three texts. Assumes nothing.
-use Rattle.call_text.specs.declared.Extra.TheVariants.{Nothing}
-use Rattle.call_text.specs.Page.{page}
-use Rattle.call_text.specs.Lines.{numbers, answer, analysis_line, synthesis_line, show_text}
-use Rattle.call_text.proofs.Pages.{three}
-use mathlib.Core.List.{◌++◌}
+-- `call_text::put_show` meets its contract: piece after piece. Assumes nothing.
+use Rattle.std.proofs.Common.{rules}
+use Rattle.call_text.specs.Lines.{show_text, analysis_line, synthesis_line}
+use Rattle.call_text.proofs.Pages.{two, three}
 use Rattle.call_text.proofs.put_show.Goals as goal
 
 pub returns : goal.returns
-unfolding show_text
-returns c = let b = c.args in
-    three (page b.out.now b.at) (numbers b.count 8) (answer 0 0 Nothing) (analysis_line b.a b.samples.now ++ synthesis_line b.s b.memory.now) c.put_numbers-k.ensures c.put_answer-line.ensures c.put_channels.ensures
+unfolding show_text analysis_line synthesis_line
+returns c = let w = three _ _ _ c.put_numbers.ensures c.put_answer.ensures (two _ _ c.put_channel.ensures c.put_channel-2.ensures) in search (rules, w.same, w.text)

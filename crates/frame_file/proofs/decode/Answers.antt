@@ -8,18 +8,12 @@ use Rattle.frame_file.proofs.Signed.{stored}
 use Rattle.frame_file.proofs.decode.Goals as goal
 
 pub loop-i-init : goal.loop-i-init
-loop-i-init c = (omega arith, filled_none _ _)
+loop-i-init c = filled_none _ _
 
 pub loop-i-preserved : goal.loop-i-preserved
-loop-i-preserved c = let a = c.args in
-    let l = c.loop-i in
-    let j = c.join.ensures in
-    (omega arith, filled_more _ (pos 0) l.invariant.1 (omega arith) (stored c.join.result _ c.sample.ensures (omega arith) ∙ ap signed j))
-
-pub shape_of-out : goal.shape_of-out
-shape_of-out c = c.loop-i.invariant.1.room
+loop-i-preserved c = let j = c.join.ensures in
+    filled_more _ (pos 0) c.loop-i.invariant (omega arith) (stored c.join.result _ c.sample.ensures (omega arith) ∙ ap signed j)
 
 pub returns : goal.returns
 unfolding samples
-returns c = let l = c.loop-i in
-    filled_all l.invariant.1 (omega arith)
+returns c = filled_all c.loop-i.invariant (omega arith)

@@ -2,9 +2,8 @@
 use mathlib.Core.Path.{sym, ap, ◌∙◌}
 use Prim.Native.Nat.{ℕ}
 use lib.ListN.{length}
-use borrow.Author.Tests.{lt-ltb, le-ltb, eq-eqb, ne_eqb, not-true, not-false}
-use Rattle.frame_file.specs.File.{byte, short_at, header_of}
-use Rattle.frame_file.specs.declared.Header.TheVariants.{Good}
+use borrow.Author.Tests.{lt-ltb, le-ltb, eq-eqb, ne_eqb}
+use Rattle.frame_file.specs.File.{byte, short_at, good, header_of}
 use Rattle.frame_file.proofs.header_with.Goals as goal
 
 pub returns-then-file-lt6 : goal.returns-then-file-lt6
@@ -15,23 +14,21 @@ returns-then-file-lt6 c = let f = c.args.file.now in
 pub returns-then-not-begins : goal.returns-then-not-begins
 unfolding header_of
 returns-then-not-begins c = let f = c.args.file.now in
-    rw (le-ltb (length f) 6 c.if-file-lt6.false, ← c.begins.ensures, not-true c.begins.result c.if-not-begins.true-raw)
+    rw (le-ltb (length f) 6 c.if-file-lt6.false, ← c.begins.ensures, c.if-not-begins.true)
 
 pub returns-then-version-ne1 : goal.returns-then-version-ne1
 unfolding header_of
 returns-then-version-ne1 c = let f = c.args.file.now in
-    rw (le-ltb (length f) 6 c.if-file-lt6.false, ← c.begins.ensures, not-false c.begins.result c.if-not-begins.false-raw, ne_eqb (short_at f 3) 1 (λ e. c.if-version-ne1.true (c.join-version.ensures ∙ e)))
+    rw (le-ltb (length f) 6 c.if-file-lt6.false, ← c.begins.ensures, c.if-not-begins.false, ne_eqb (short_at f 3) 1 (λ e. c.if-version-ne1.true (c.join-version.ensures ∙ e)))
 
-pub returns-then-not-valid : goal.returns-then-not-valid
+pub returns-else-valid : goal.returns-else-valid
 unfolding header_of
-returns-then-not-valid c = let f = c.args.file.now in
+returns-else-valid c = let f = c.args.file.now in
     let v = c.join-version.ensures in
-    let known = not-true c.valid.result c.if-not-valid.true-raw in
-    rw (le-ltb (length f) 6 c.if-file-lt6.false, ← c.begins.ensures, not-false c.begins.result c.if-not-begins.false-raw, eq-eqb (short_at f 3) 1 (sym v ∙ c.if-version-ne1.false), ← c.valid.ensures, known)
+    rw (le-ltb (length f) 6 c.if-file-lt6.false, ← c.begins.ensures, c.if-not-begins.false, eq-eqb (short_at f 3) 1 (sym v ∙ c.if-version-ne1.false), ← c.valid.ensures, c.if-valid.false)
 
-pub returns : goal.returns
+pub returns-then-valid : goal.returns-then-valid
 unfolding header_of
-returns c = let f = c.args.file.now in
+returns-then-valid c = let f = c.args.file.now in
     let v = c.join-version.ensures in
-    let known = not-false c.valid.result c.if-not-valid.false-raw in
-    rw (le-ltb (length f) 6 c.if-file-lt6.false, ← c.begins.ensures, not-false c.begins.result c.if-not-begins.false-raw, eq-eqb (short_at f 3) 1 (sym v ∙ c.if-version-ne1.false), ← c.valid.ensures, known) (ap (λ (n : ℕ). Good n (byte f 5)) v)
+    rw (le-ltb (length f) 6 c.if-file-lt6.false, ← c.begins.ensures, c.if-not-begins.false, eq-eqb (short_at f 3) 1 (sym v ∙ c.if-version-ne1.false), ← c.valid.ensures, c.if-valid.true) (ap (λ (n : ℕ). good n (byte f 5)) v)

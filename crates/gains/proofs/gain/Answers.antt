@@ -1,5 +1,4 @@
--- `gains::gain` meets its contract: each arm is the definition's entry, and the last arm is none of them. Written by tools/tables.
--- Assumes nothing.
+-- `gains::gain` meets its contract: each arm is the definition's entry, and the last arm is none of them. Written by tools/tables. Assumes nothing.
 use mathlib.Core.Path.{ap, sym}
 use lib.Ieee.{binary32, of_bits}
 use Rattle.gains.specs.Tables.{lengths, gain_bits}

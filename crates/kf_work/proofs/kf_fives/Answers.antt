@@ -4,8 +4,8 @@ use Rattle.kf_work.proofs.kf_fives.Goals as goal
 
 pub returns-in-2 : goal.returns-in-2
 unfolding packed_column
-returns-in-2 c = rw c.in-2.is c.fives2.ensures
+returns-in-2 c = rw c.in-2.is c.fives.ensures
 
 pub returns-in-3 : goal.returns-in-3
 unfolding packed_column
-returns-in-3 c = rw c.in-3.is c.fives3.ensures
+returns-in-3 c = rw (c.in-3.is, ← c.get-y.ensures) c.fives-in-3.ensures

@@ -5,7 +5,7 @@ use native.Mathlib.Omega.{arith}
 use lib.ListN.{get_or}
 use borrow.Rule.Slice.PartMut.{same_len_mid}
 use Rattle.complex.specs.Complex.{at}
-use Rattle.columns.specs.Column.{of5}
+use Rattle.laws.specs.Lists.{tab}
 use Rattle.kf_work.proofs.Spread.{within-zero}
 use Rattle.kf_work.proofs.Leaves.{leaf_more, leaf_in}
 use Rattle.kf_work.proofs.kf_leaves.Goals as goal
@@ -47,7 +47,7 @@ loop-q-preserved c = let lp = c.loop-q in
     let x = at a.x.now a.y.now in
     let s = a.fstride * get_or a.plan.now 0 0 in
     let o = a.from + lp.q * a.fstride in
-    let read : c.copied-column.result ≡ of5 (λ q. x (o + q * s)) = rw lp.invariant.3 at c.copied-column.ensures in (
+    let read : c.copied-column.result ≡ tab 5 (λ q. x (o + q * s)) = rw lp.invariant.3 at c.copied-column.ensures in (
       same_len_mid _ _ _ _ c.kf_bfly5.auto.re ∙ lp.invariant.0,
       same_len_mid _ _ _ _ c.kf_bfly5.auto.im ∙ lp.invariant.1,
       omega (arith, c.loop-q-test.true),

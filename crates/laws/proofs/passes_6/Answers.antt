@@ -14,4 +14,4 @@ returns-then-x c = ap (upper c.args.x) (sym c.if-x.true) ∙ between_is c.args.x
 
 pub returns-else-x : goal.returns-else-x
 unfolding of_bits neg
-returns-else-x c = ap (upper c.args.x) (sym c.if-x.false) ∙ between_is c.args.x
+returns-else-x c = c.if-x.false ∙ (ap (upper c.args.x) (sym c.if-x.false) ∙ between_is c.args.x)

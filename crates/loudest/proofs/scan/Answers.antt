@@ -14,7 +14,7 @@ use Rattle.loudest.proofs.scan.Goals.{then-greatest-own, else-greatest-own}
 pub loop-i-init : goal.loop-i-init
 unfolding best
 loop-i-init c = let a = c in
-    (omega arith, refl, c.product-greatest.ensures ∙ sym (product_at a.args.edges.now a.args.energies.now 0 a.requires.0))
+    (refl, c.product-greatest.ensures ∙ sym (product_at a.args.edges.now a.args.energies.now 0 a.requires.0))
 
 pub loop-i-preserved : goal.loop-i-preserved
 loop-i-preserved c = let a = c.args in
@@ -22,11 +22,11 @@ loop-i-preserved c = let a = c.args in
     let ps = products a.edges.now a.energies.now in
     let e : c.product-own.result ≡ get_or ps l.i nan = c.product-own.ensures ∙ sym (product_at a.edges.now a.energies.now l.i (omega arith)) in
     elim c.if-greatest-own.branch [
-      | then-greatest-own w ↦ (omega arith, w.band-is ∙ scan_takes ps l.band l.i l.greatest l.invariant.1 l.invariant.2 (rw e at w.if-greatest-own.true), w.greatest-is ∙ e ∙ ap (λ (k : ℕ). get_or ps k nan) (sym w.band-is))
-      | else-greatest-own w ↦ (omega arith, w.band-is ∙ scan_keeps ps l.band l.i l.greatest l.invariant.1 l.invariant.2 (rw e at w.if-greatest-own.false), w.greatest-is ∙ l.invariant.2 ∙ ap (λ (k : ℕ). get_or ps k nan) (sym w.band-is))
+      | then-greatest-own w ↦ (w.band-is ∙ scan_takes ps l.band l.i l.greatest l.invariant.0 l.invariant.1 (rw e at w.if-greatest-own.true), w.greatest-is ∙ e ∙ ap (λ (k : ℕ). get_or ps k nan) (sym w.band-is))
+      | else-greatest-own w ↦ (w.band-is ∙ scan_keeps ps l.band l.i l.greatest l.invariant.0 l.invariant.1 (rw e at w.if-greatest-own.false), w.greatest-is ∙ l.invariant.1 ∙ ap (λ (k : ℕ). get_or ps k nan) (sym w.band-is))
     ]
 
 pub returns : goal.returns
 returns c = let a = c.args in
     let e : c.loop-i.i ≡ length a.energies.now = omega arith in
-    c.loop-i.invariant.1 ∙ ap (best (products a.edges.now a.energies.now)) e
+    c.loop-i.invariant.0 ∙ ap (best (products a.edges.now a.energies.now)) e

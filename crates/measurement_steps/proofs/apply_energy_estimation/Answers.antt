@@ -13,7 +13,7 @@ use Rattle.measurement_steps.proofs.apply_energy_estimation.Goals as goal
 pub loop-b-init : goal.loop-b-init
 loop-b-init c = let a = c.args in
     let first = c.singles-b.ensures in
-    (omega arith, filled_from _ _ a.out.now _ first.bands.0, filled_from _ _ a.places.now _ first.bands.1)
+    (filled_from _ _ a.out.now _ first.bands.0, filled_from _ _ a.places.now _ first.bands.1)
 
 pub band-own-requires : goal.band-own-requires
 band-own-requires c = let p = c.requires in
@@ -24,7 +24,7 @@ pub loop-b-preserved : goal.loop-b-preserved
 unfolding whole
 loop-b-preserved c = let l = c.loop-b in
     let own = c.band-own.ensures in
-    (omega arith, filled_more _ nan l.invariant.1 (omega arith) (ap (λ (x : Reading). x.energy) own), filled_more _ 0 l.invariant.2 (omega arith) (ap (λ (x : Reading). x.peak) own))
+    (filled_more _ nan l.invariant.0 (omega arith) (ap (λ (x : Reading). x.energy) own), filled_more _ 0 l.invariant.1 (omega arith) (ap (λ (x : Reading). x.peak) own))
 
 pub returns : goal.returns
 unfolding energies peaks
@@ -33,4 +33,4 @@ returns c = let a = c.args in
     let inv = c.loop-b.invariant in
     let same : length s.new.out ≡ length a.out.now = omega arith in
     let alike : length s.new.places ≡ length a.out.now = omega arith in
-    (rw same at (filled_all inv.1 (omega arith)), rw alike at (filled_all inv.2 (omega arith)))
+    (rw same at (filled_all inv.0 (omega arith)), rw alike at (filled_all inv.1 (omega arith)))

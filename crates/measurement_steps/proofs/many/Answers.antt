@@ -17,16 +17,16 @@ pub int_to_float-width : goal.int_to_float-width
 int_to_float-width c = rw (to_z_pos w32 (length c.args.lines.now) (omega arith)) (width_fits _ (omega arith))
 
 pub loop-q-init : goal.loop-q-init
-loop-q-init c = (omega arith, c.start-b.ensures _)
+loop-q-init c = c.start-b.ensures _
 
 pub loop-q-preserved : goal.loop-q-preserved
 loop-q-preserved c = let l = c.loop-q in
-    (omega arith, at_place _ _ (4 * l.q + 4) (4 * (l.q + 1)) c.four-b.ensures (omega arith))
+    at_place _ _ (4 * l.q + 4) (4 * (l.q + 1)) c.four-b.ensures (omega arith)
 
 pub rest-requires : goal.rest-requires
 rest-requires c = let l = c.loop-q in
     let n = length c.args.lines.now in
-    (omega arith, omega arith, at_place _ _ (4 * l.q) (n / 4 * 4) l.invariant.1 (omega arith))
+    (omega arith, omega arith, at_place _ _ (4 * l.q) (n / 4 * 4) l.invariant (omega arith))
 
 pub returns : goal.returns
 returns c = let ls = c.args.lines.now in

@@ -8,11 +8,11 @@ use Rattle.measurement_steps.proofs.measured.Goals as goal
 pub more-requires : goal.more-requires
 more-requires c = (omega arith, c.start-none.ensures _)
 
-pub two-requires : goal.two-requires
-two-requires c = (omega arith, c.start-none.ensures _)
+pub several-requires : goal.several-requires
+several-requires c = (omega arith, c.start-none.ensures _)
 
-pub three-requires : goal.three-requires
-three-requires c = (omega arith, c.start-none.ensures _)
+pub several-requires-in-3 : goal.several-requires-in-3
+several-requires-in-3 c = (omega arith, c.start-none.ensures _)
 
 pub four-requires : goal.four-requires
 four-requires c = (omega arith, c.start-none.ensures _)
@@ -38,11 +38,11 @@ returns-in-1 c = whole_is _ c.args.lines.now 1 _ c.more.ensures (omega arith) re
 
 pub returns-in-2 : goal.returns-in-2
 unfolding of_bits of_int
-returns-in-2 c = whole_is _ c.args.lines.now 2 _ c.two.ensures (omega arith) refl
+returns-in-2 c = whole_is _ c.args.lines.now 2 _ c.several.ensures (omega arith) refl
 
 pub returns-in-3 : goal.returns-in-3
 unfolding of_bits of_int
-returns-in-3 c = whole_is _ c.args.lines.now 3 _ c.three.ensures (omega arith) refl
+returns-in-3 c = whole_is _ c.args.lines.now 3 _ c.several-in-3.ensures (omega arith) refl
 
 pub returns-in-4 : goal.returns-in-4
 unfolding of_bits of_int
@@ -54,11 +54,11 @@ returns-in-5 c = whole_is _ c.args.lines.now 5 _ c.more-in-5.ensures (omega arit
 
 pub returns-in-6 : goal.returns-in-6
 unfolding of_bits of_int
-returns-in-6 c = whole_is _ c.args.lines.now 6 _ c.two-in-6.ensures (omega arith) refl
+returns-in-6 c = whole_is _ c.args.lines.now 6 _ c.several-in-6.ensures (omega arith) refl
 
 pub returns-in-7 : goal.returns-in-7
 unfolding of_bits of_int
-returns-in-7 c = whole_is _ c.args.lines.now 7 _ c.three-in-7.ensures (omega arith) refl
+returns-in-7 c = whole_is _ c.args.lines.now 7 _ c.several-in-7.ensures (omega arith) refl
 
 pub returns-in-8 : goal.returns-in-8
 unfolding of_bits of_int

@@ -10,11 +10,11 @@ returns-in-1 c = let a = c.args in
 
 pub returns-in-2 : goal.returns-in-2
 returns-in-2 c = let a = c.args in
-    at_place a.width a.lines.now (a.i + 2) _ c.two.ensures (omega arith)
+    at_place a.width a.lines.now (a.i + 2) _ c.several.ensures (omega arith)
 
 pub returns-in-3 : goal.returns-in-3
 returns-in-3 c = let a = c.args in
-    at_place a.width a.lines.now (a.i + 3) _ c.three.ensures (omega arith)
+    at_place a.width a.lines.now (a.i + 3) _ c.several-in-3.ensures (omega arith)
 
 pub returns-in_default : goal.returns-in_default
 returns-in_default c = let s = c in

@@ -1,6 +1,6 @@
 -- `singles` meets its contract. The loop's invariant: the bands of the first q fours are of one line each, and their places of both slices are filled. Assumes nothing.
 use mathlib.Core.Path.{◌≡◌}
-use Prim.Native.Nat.{◌+◌, ◌*◌}
+use Prim.Native.Nat.{◌+◌, ◌*◌, ◌/◌}
 use native.Mathlib.Omega.{arith}
 use lib.ListN.{length}
 use lib.Ieee.{nan}
@@ -11,7 +11,7 @@ use Rattle.measurement_steps.proofs.Filled.{filled_on}
 use Rattle.measurement_steps.proofs.singles.Goals as goal
 
 pub loop-q-init : goal.loop-q-init
-loop-q-init c = (omega arith, λ p b. absurd (omega arith), filled_none _ _, filled_none _ _)
+loop-q-init c = (λ p b. absurd (omega arith), filled_none _ _, filled_none _ _)
 
 pub apart-requires : goal.apart-requires
 apart-requires c = let s = c in
@@ -20,8 +20,8 @@ apart-requires c = let s = c in
 pub returns-then-not-apart : goal.returns-then-not-apart
 returns-then-not-apart c = let inv = c.loop-q.invariant in
     record {
-      fours = (omega arith, inv.1, λ l. c.apart.ensures.1 c.if-not-apart.true);
-      bands = (inv.2.holds, inv.3.holds);
+      fours = (omega arith, inv.0, λ l. c.apart.ensures.1 c.if-not-apart.true);
+      bands = (inv.1.holds, inv.2.holds);
     }
 
 pub single-requires : goal.single-requires
@@ -36,15 +36,16 @@ loop-q-preserved c = let a = c.args in
     let each = c.apart.ensures.0 c.if-not-apart.false in
     let e : 4 * l.q + 4 ≡ 4 * (l.q + 1) = omega arith in
     let wrote = c.single.ensures in (
-      omega arith,
-      below_more _ _ l.invariant.1 each,
-      rw wrote.0 (rw e at (filled_on 4 _ nan l.invariant.2 (omega arith) (apart_energy a.edges.now (4 * l.q) each a.lines.now))),
-      rw wrote.1 (rw e at (filled_on 4 _ 0 l.invariant.3 (omega arith) (apart_place a.edges.now (4 * l.q) each a.lines.now))),
+      below_more _ _ l.invariant.0 each,
+      rw wrote.0 (rw e at (filled_on 4 _ nan l.invariant.1 (omega arith) (apart_energy a.edges.now (4 * l.q) each a.lines.now))),
+      rw wrote.1 (rw e at (filled_on 4 _ 0 l.invariant.2 (omega arith) (apart_place a.edges.now (4 * l.q) each a.lines.now))),
     )
 
-pub returns : goal.returns
-returns c = let inv = c.loop-q.invariant in
-    record {
-      fours = (omega arith, inv.1, λ l. absurd (omega arith));
-      bands = (inv.2.holds, inv.3.holds);
-    }
+pub returns-clause-fours : goal.returns-clause-fours
+returns-clause-fours c = let inv = c.loop-q.invariant in
+    (omega arith, λ p b. inv.0 p (omega arith), λ l. absurd (omega arith))
+
+pub returns-clause-bands : goal.returns-clause-bands
+returns-clause-bands c = let inv = c.loop-q.invariant in
+    let e : c.loop-q.q ≡ length c.loop-q.out / 4 = omega arith in
+    (rw e at inv.1.holds, rw e at inv.2.holds)

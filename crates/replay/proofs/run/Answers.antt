@@ -9,5 +9,5 @@ use Rattle.replay.proofs.run.Goals as goal
 
 pub calls-requires : goal.calls-requires
 calls-requires c = let f = c.read_full-n in
-    let long = good_long (take f.result f.new.buf) (sym (c.header_number-number.ensures ∙ ap header_number c.read_header.ensures) ∙ c.if-number-ne-ACCEPTED.false) in
+    let long = good_long (take f.result f.new.buf) (ap header_number (sym c.read_header.ensures ∙ c.in-Ok.is)) in
     record { ordered = omega (arith, at_most f.result f.new.buf); inside = f.ensures.in_bounds }

@@ -7,12 +7,11 @@ use Rattle.gains.specs.Gains.{scaled}
 use Rattle.synthesis_steps.proofs.scaled.Goals as goal
 
 pub loop-i-init : goal.loop-i-init
-loop-i-init c = (omega arith, filled_none _ _)
+loop-i-init c = filled_none _ _
 
 pub loop-i-preserved : goal.loop-i-preserved
-loop-i-preserved c = (omega arith, filled_more _ nan c.loop-i.invariant.1 (omega arith) refl)
+loop-i-preserved c = filled_more _ nan c.loop-i.invariant (omega arith) refl
 
 pub returns : goal.returns
 unfolding scaled
-returns c = let a = c.args in
-    filled_map (λ (x : Float). mul binary32 x a.g) nan a.from.now c.loop-i.invariant.1 (omega arith) c.requires
+returns c = filled_map (λ (x : Float). mul binary32 x c.args.g) nan c.args.from.now c.loop-i.invariant (omega arith) c.requires

@@ -1,17 +1,8 @@
--- `twiddles::negate` meets its contract. The loop's invariant: the first k places hold the negated numbers, and the others what they held.
--- Assumes nothing.
-use mathlib.Core.Path.{refl}
-use native.Mathlib.Omega.{arith}
-use lib.Ieee.{nan, neg}
+-- `twiddles::negate` meets its contract: one more number is negated. Assumes nothing.
 use borrow.Author.Rules.{rules}
-use Rattle.laws.proofs.Lists.{filled_none, mapped_more, filled_map}
+use lib.Ieee.{neg}
+use Rattle.std.proofs.lemmas.List.Edits.{map_over_more}
 use Rattle.twiddles.proofs.negate.Goals as goal
 
-pub loop-k-init : goal.loop-k-init
-loop-k-init c = (search rules, filled_none _ _)
-
-pub loop-k-preserved : goal.loop-k-preserved
-loop-k-preserved c = (omega arith, mapped_more neg nan c.loop-k.invariant.1 (omega (arith, c.loop-k.invariant.1.room)))
-
-pub returns : goal.returns
-returns c = filled_map neg nan c.args.im.now c.loop-k.invariant.1 (omega (arith, c.loop-k.invariant.1.room)) refl
+pub loop-x-preserved : goal.loop-x-preserved
+loop-x-preserved c = map_over_more neg c.args.im.now c.loop-x.im c.loop-x.x-index _ (search rules) c.loop-x.invariant (search rules)

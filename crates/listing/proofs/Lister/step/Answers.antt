@@ -2,10 +2,11 @@
 use mathlib.Core.Path.{sym, ap, ◌∙◌}
 use Prim.Native.Nat.{ℕ}
 use native.Mathlib.Omega.{arith}
+use Rattle.std.specs.Prelude.{Ok}
 use lib.ListN.{take}
 use lib.Seq.{length-take-le}
 use Rattle.config.specs.Config.{nf}
-use Rattle.frame_file.specs.File.{samples, record_number}
+use Rattle.frame_file.specs.File.{samples}
 use Rattle.listing.specs.declared.line.Text.{Text}
 use Rattle.listing.specs.declared.Lister.{Lister}
 use Rattle.listing.specs.declared.Stepped.{Stepped}
@@ -20,40 +21,33 @@ ended l t = record { text = t; used = 0; lister = l }
 
 pub slice_bounds-frame-end : goal.slice_bounds-frame-end
 slice_bounds-frame-end c = let a = c.args in
-    let u = c.in-Frame.used in
-    let w = whole a.self.channel.config a.bytes.now u (sym c.read_record-found.ensures ∙ c.in-Frame.is) in
+    let u = c.in-Ok-Frame.used in
+    let w = whole a.self.channel.config a.bytes.now u (sym c.read_record.ensures ∙ (c.in-Ok-Frame.is ∙ ap Ok c.in-Ok-Frame.field-0-is)) in
     sym (length-take-le u a.bytes.now (omega (arith, w.uses, w.room)))
 
 pub frame-requires : goal.frame-requires
 frame-requires c = let a = c.args in
-    let u = c.in-Frame.used in
-    let w = whole a.self.channel.config a.bytes.now u (sym c.read_record-found.ensures ∙ c.in-Frame.is) in
+    let u = c.in-Ok-Frame.used in
+    let w = whole a.self.channel.config a.bytes.now u (sym c.read_record.ensures ∙ (c.in-Ok-Frame.is ∙ ap Ok c.in-Ok-Frame.field-0-is)) in
     (w.known, length-take-le u a.bytes.now (omega (arith, w.uses, w.room)) ∙ w.uses)
 
-pub returns-in-Frame : goal.returns-in-Frame
+pub returns-in-Ok-Frame : goal.returns-in-Ok-Frame
 unfolding step
-returns-in-Frame c = let a = c.args in
-    let u = c.in-Frame.used in
-    let w = whole a.self.channel.config a.bytes.now u (sym c.read_record-found.ensures ∙ c.in-Frame.is) in
+returns-in-Ok-Frame c = let a = c.args in
+    let u = c.in-Ok-Frame.used in
+    let w = whole a.self.channel.config a.bytes.now u (sym c.read_record.ensures ∙ (c.in-Ok-Frame.is ∙ ap Ok c.in-Ok-Frame.field-0-is)) in
     c.frame.ensures
     ∙ ap (λ (n : ℕ). framed a.self n (listened a.self.channel (samples (nf a.self.channel.config) (take u a.bytes.now)))) (length-take-le u a.bytes.now (omega (arith, w.uses, w.room)))
-    ∙ ap (found a.self a.bytes.now) (sym c.in-Frame.is ∙ c.read_record-found.ensures)
+    ∙ ap (found a.self a.bytes.now) (sym (c.in-Ok-Frame.is ∙ ap Ok c.in-Ok-Frame.field-0-is) ∙ c.read_record.ensures)
 
-pub returns-in-End : goal.returns-in-End
+pub returns-in-Ok-End : goal.returns-in-Ok-End
 unfolding step
-returns-in-End c = let a = c.args in
-    c.last.ensures ∙ ap (ended a.self) c.end_line.ensures ∙ ap (found a.self a.bytes.now) (sym c.in-End.is ∙ c.read_record-found.ensures)
+returns-in-Ok-End c = let a = c.args in
+    c.last.ensures ∙ ap (ended a.self) c.end_line.ensures ∙ ap (found a.self a.bytes.now) (sym (c.in-Ok-End.is ∙ ap Ok c.in-Ok-End.field-0-is) ∙ c.read_record.ensures)
 
-pub returns-in-Cut : goal.returns-in-Cut
+pub returns-in-Err : goal.returns-in-Err
 unfolding step
-returns-in-Cut c = let a = c.args in
-    c.last-in-Cut.ensures
-    ∙ ap (ended a.self) (c.refused_line.ensures ∙ ap (λ (n : ℕ). text (refused_line n)) (c.record_number.ensures ∙ ap record_number c.in-Cut.is))
-    ∙ ap (found a.self a.bytes.now) (sym c.in-Cut.is ∙ c.read_record-found.ensures)
-
-pub returns-in-Astray : goal.returns-in-Astray
-unfolding step
-returns-in-Astray c = let a = c.args in
-    c.last-in-Astray.ensures
-    ∙ ap (ended a.self) (c.refused_line-in-Astray.ensures ∙ ap (λ (n : ℕ). text (refused_line n)) (c.record_number-in-Astray.ensures ∙ ap record_number c.in-Astray.is))
-    ∙ ap (found a.self a.bytes.now) (sym c.in-Astray.is ∙ c.read_record-found.ensures)
+returns-in-Err c = let a = c.args in
+    c.last-in-Err.ensures
+    ∙ ap (ended a.self) (c.refused_line.ensures ∙ ap (λ (n : ℕ). text (refused_line n)) c.number.ensures)
+    ∙ ap (found a.self a.bytes.now) (sym c.in-Err.is ∙ c.read_record.ensures)

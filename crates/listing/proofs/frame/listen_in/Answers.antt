@@ -3,8 +3,5 @@ use Rattle.listing.proofs.Frames.{listened_is}
 use Rattle.listing.proofs.frame.listen_in.Goals as goal
 
 pub returns : goal.returns
-returns c = let called = c in
-    let framed = c.frame-framed in
-    let measured = c.measure-measured in
-    let heard = c.loudest_band-heard in
-    listened_is called.args.channel called.args.input.now _ _ _ _ _ _ framed.result measured.result heard.result called.requires.0 called.requires.1 called.requires.2 framed.ensures measured.ensures heard.ensures
+returns c = let r = c.requires in
+    listened_is c.args.channel c.args.input.now _ _ _ _ _ _ c.frame-framed.result c.measure.result c.loudest_band.result r.0 r.1 r.2 c.frame-framed.ensures c.measure.ensures c.loudest_band.ensures c.unwrap_or-flag.ensures c.unwrap_or-loudest.ensures

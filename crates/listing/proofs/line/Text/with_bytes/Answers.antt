@@ -10,4 +10,4 @@ use Rattle.listing.proofs.line.Text.with_bytes.Goals as goal
 pub returns : goal.returns
 unfolding with
 returns c = let a = c.args in
-    ap (λ (b : List ℕ). made b (a.self.len + length a.s.now)) c.put-bytes.ensures
+    ap (λ (b : List ℕ). made b (a.self.len + length a.s.now)) c.put.ensures

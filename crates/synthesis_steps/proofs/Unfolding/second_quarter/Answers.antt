@@ -1,0 +1,21 @@
+-- `synthesis_steps::Unfolding::second_quarter` meets its contract. The invariant: the places passed hold the past and the frame's together, and the others are as they were. Assumes nothing.
+use Prim.Native.Nat.{◌+◌}
+use native.Mathlib.Omega.{arith}
+use Rattle.laws.proofs.Lists.{filled_none}
+use Rattle.synthesis_steps.proofs.Mirrors.{place_middle}
+use Rattle.synthesis_steps.proofs.Unfold.{one_sum, all_summed}
+use Rattle.synthesis_steps.proofs.Unfolding.second_quarter.Goals as goal
+
+pub loop-i-init : goal.loop-i-init
+loop-i-init c = filled_none _ _
+
+pub loop-i-preserved : goal.loop-i-preserved
+loop-i-preserved c = let a = c.args in
+    let u = a.self in
+    let l = c.loop-i in
+    one_sum u.h u.v.now u.w.now u.values u.window a.past.now u.h l.invariant (omega arith) (omega arith) c.factor.ensures (place_middle u.h u.v.now u.values (u.h + l.i) _ (omega arith) (omega arith) (omega arith))
+
+pub returns : goal.returns
+returns c = let a = c.args in
+    let u = a.self in
+    all_summed u.h u.v.now u.w.now u.values u.window a.past.now u.h c.loop-i.invariant (omega arith) c.requires.1 (omega arith)

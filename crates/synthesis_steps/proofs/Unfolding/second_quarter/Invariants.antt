@@ -1,0 +1,6 @@
+-- `synthesis_steps::Unfolding::second_quarter` meets its contract. The invariant: the places passed hold the past and the frame's together, and the others are as they were. Assumes nothing.
+use Rattle.synthesis_steps.proofs.Unfold.{Summed}
+use Rattle.synthesis_steps.proofs.Unfolding.second_quarter.Given as goal
+
+abbrev pub invariant-loop-i : goal.invariant-loop-i
+invariant-loop-i l = Summed l.self.h l.self.v.now l.self.w.now l.past l.self.h l.initial.out l.i l.out
