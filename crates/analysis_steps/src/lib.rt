@@ -20,6 +20,17 @@ pub fn silence_300() -> [i16; 300]
     [0i16; 300]
 }
 
+// All of `to` from `from`. A loop of its own, since std's `copy_from_slice` calls memmove, which the
+// archive for C would need from outside.
+fn copy(from: &[i16], to: &mut [i16])
+    requires { length from.now ≡ length to.old }
+    ensures { to.new ≡ from.now }
+{
+    for i in 0..to.len() {
+        to[i] = from[i];
+    }
+}
+
 // Inner. What the next step will read, in place of what this one read: the frame's last samples, and zeros to the end.
 pub fn keep(input: &[i16], z: usize, samples: &mut [i16])
     requires { (z ≤ length input.now) × (length input.now ≤ length samples.old + z) }
@@ -27,7 +38,7 @@ pub fn keep(input: &[i16], z: usize, samples: &mut [i16])
 {
     let last = &input[z..];
     let (kept, rest) = samples.split_at_mut(last.len());
-    kept.copy_from_slice(last);
+    copy(last, kept);
     rest.fill(0);
 }
 

@@ -31,6 +31,17 @@ pub fn scaled(from: &[f32], g: f32, to: &mut [f32])
     }
 }
 
+// All of `to` from `from`. A loop of its own, since std's `copy_from_slice` calls memmove, which the
+// archive for C would need from outside.
+fn copy(from: &[f32], to: &mut [f32])
+    requires { length from.now ≡ length to.old }
+    ensures { to.new ≡ from.now }
+{
+    for i in 0..to.len() {
+        to[i] = from[i];
+    }
+}
+
 // Inner. The lines, and zeros after them.
 #[tactic(auto, unfolding(crate::specs::Places::padded))]
 pub fn pad(lines: &[f32], buf: &mut [f32])
@@ -38,7 +49,7 @@ pub fn pad(lines: &[f32], buf: &mut [f32])
     ensures { buf.new ≡ padded (length buf.old) lines.now }
 {
     let (front, rest) = buf.split_at_mut(lines.len());
-    front.copy_from_slice(lines);
+    copy(lines, front);
     rest.fill(0.0);
 }
 
