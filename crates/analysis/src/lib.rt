@@ -39,11 +39,10 @@ fn silent(config: u8) -> Channel
 pub fn clear(config: u8) -> Answered<Channel>
     ensures { cleared_by result ≡ cleared config }
 {
-    let told = refusals::on_clear(config);
-    let of = if told.is_ok() { config } else { 255 };
+    let clear = refusals::on_clear(config);
     Answered {
-        told,
-        channel: silent(of),
+        told: clear.told,
+        channel: silent(clear.config),
     }
 }
 

@@ -4,6 +4,7 @@ use Rattle.laws.specs.Lists.{first}
 use Rattle.laws.specs.Passes.{passes6, passes7}
 use Rattle.config.specs.Config.{valid, nb}
 use Rattle.refusals.specs.declared.Verdict.{Verdict}
+use Rattle.refusals.specs.declared.Clear.{Clear}
 use Rattle.refusals.specs.declared.Refusal.{Refusal}
 use Rattle.refusals.specs.declared.Refusal.TheVariants.{BadConfig, BadSize, BadInput, BadOutput, BadEnergies, BadValue, BadEnergy, ShortFile, BadMark, BadVersion, CutFrame}
 
@@ -108,9 +109,9 @@ abbrev pub clearing : {A : Type 0} → (ℕ → ℕ → A) → Bool → ℕ → 
 clearing made true c = made accepted c
 clearing made false c = made bad_config 255
 
--- the test alone
-abbrev pub on_clear : ℕ → Result ⊤ Refusal
-on_clear c = cond (valid c) (Ok tt) (Err BadConfig)
+-- the test and the configuration alone
+abbrev pub on_clear : ℕ → Clear
+on_clear c = cond (valid c) (record { told = Ok tt; config = c }) (record { told = Err BadConfig; config = 255 })
 
 -- a call on energies alone, by its tests 1, 5 and 7: what it answers on energies that pass, and beside a refusal
 abbrev pub judged : {A : Type 0} → (ℕ → ℕ → A) → A → ℕ → List Float → A

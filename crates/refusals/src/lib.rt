@@ -66,7 +66,9 @@ impl From<Result<(), Refusal>> for Verdict {
     ghost from_gives = { λ told v. v ≡ told_by told };
 
     // Entry. The number and the index of an answer.
-    fn from(told: Result<(), Refusal>) -> Verdict {
+    fn from(told: Result<(), Refusal>) -> Verdict
+        ensures { result ≡ told_by told }
+    {
         match told {
             Ok(()) => Verdict {
                 number: 0,
@@ -87,14 +89,28 @@ pub struct Answered<C> {
     pub channel: C,
 }
 
-// Entry. The test of a clear: 1.
-pub fn on_clear(config: u8) -> Result<(), Refusal>
+// What a clear is told, and the configuration of the channel that it gives.
+#[derive(Clone, Copy)]
+pub struct Clear {
+    pub told: Result<(), Refusal>,
+    pub config: u8,
+}
+
+// Entry. The test of a clear, 1, and its channel's configuration: the one asked for, or 255 beside
+// a refusal.
+pub fn on_clear(config: u8) -> Clear
     ensures { result ≡ on_clear config }
 {
     if config::valid(config) {
-        Ok(())
+        Clear {
+            told: Ok(()),
+            config,
+        }
     } else {
-        Err(Refusal::BadConfig)
+        Clear {
+            told: Err(Refusal::BadConfig),
+            config: 255,
+        }
     }
 }
 
