@@ -7,7 +7,7 @@ FUNCTION = re.compile(r'^( *)(pub )?(?:extern "C" )?fn (\w+)(<[^>]*>)?')
 ANY = re.compile(r'^ *(?:[\w()]+ |"C" )*fn \w')
 OWN = re.compile(r'^impl(?:<[^>]*>)? (\w+)(?:<[^>]*>)? \{$')
 TRAIT = re.compile(r'^impl(?:<[^>]*>)? (\w+)(?:<(.*)>)? for (\w+)(?:<[^>]*>)? \{$')
-DECLARED = re.compile(r'^(?:pub )?trait (\w+)')
+DECLARED = re.compile(r'^(pub )?trait (\w+)')
 GIVES = re.compile(r'^    ghost (\w+)_gives = ')
 
 
@@ -16,7 +16,7 @@ class Unknown(Exception):
 
 
 class Function(NamedTuple):
-    """A function's name, as `f` or `S.f`, or `STrait.f` of a struct's trait, whether it is public, as one of a trait is that has clauses of its own, the words of its clauses, the comment above it, and the traits that bound its type parameters."""
+    """A function's name, as `f` or `S.f`, or `STrait.f` of a struct's trait, whether it is public, as one of a trait is that has clauses of its own and is no private trait of the file, the words of its clauses, the comment above it, and the traits that bound its type parameters."""
     name: str
     public: bool
     clauses: frozenset
@@ -47,8 +47,9 @@ def comment(lines):
 
 
 def of_struct(trait, parameter, struct):
-    """The checker's name for a struct's trait: `VerdictFromResultUnitRefusal`."""
-    return f'{struct}{trait}' + re.sub(r'\W', '', (parameter or '').replace('()', 'Unit'))
+    """The checker's name for a struct's trait: `VerdictFromResultUnitRefusal`, `CountedFromOptionRoomsPair` of an `Option<rooms::Pair>`."""
+    words = re.findall(r'\w+', (parameter or '').replace('()', 'Unit'))
+    return f'{struct}{trait}' + ''.join(word[0].upper() + word[1:] for word in words)
 
 
 def promised(lines):
@@ -57,7 +58,7 @@ def promised(lines):
     for number, line in enumerate(lines):
         declared, found = DECLARED.match(line), FUNCTION.match(line)
         if declared or line == '}':
-            trait = declared[1] if declared else None
+            trait = declared[2] if declared else None
         if trait and found and 'ensures' in clauses(lines[number:], found[1]):
             yield trait, found[3]
 
@@ -66,11 +67,13 @@ def functions(text):
     """Each function of a file."""
     owner, of_trait, given, lines = None, False, set(), text.split('\n')
     of_traits = set(promised(lines))
+    private = {declared[2] for declared in map(DECLARED.match, lines) if declared and not declared[1]}
     for number, line in enumerate(lines):
         block, trait = OWN.match(line), TRAIT.match(line)
         if block or trait or line == '}':
             owner = block[1] if block else of_struct(*trait.groups()) if trait else None
-            of_trait, given = trait is not None, {name for of, name in of_traits if trait and of == trait[1]}
+            of_trait = trait is not None and trait[1] not in private
+            given = {name for of, name in of_traits if trait and of == trait[1]}
         member = GIVES.match(line)
         if member:
             given = given | {member[1]}
@@ -79,8 +82,8 @@ def functions(text):
             indent, public, name, parameters = found.groups()
             bounds = frozenset(re.findall(r'[:+] *(\w+)', parameters or ''))
             words = clauses(lines[number:], indent)
-            shown = public is not None or of_trait and 'ensures' in words
             said = words | ({'ensures'} if name in given else set())
+            shown = public is not None or of_trait and 'ensures' in said
             yield Function(f'{owner}.{name}' if owner else name, shown, said, comment(lines[:number]), bounds)
         elif ANY.match(line):
             raise Unknown(f'a function that is not read: {line.strip()}')

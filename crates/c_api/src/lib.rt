@@ -29,7 +29,9 @@ impl From<Answered<analysis::Channel>> for AnalysisAnswered {
     ghost from_gives = { λ answered given. given ≡ analysis_answered answered };
 
     // Entry. The number of an answer, and its channel.
-    fn from(answered: Answered<analysis::Channel>) -> AnalysisAnswered {
+    fn from(answered: Answered<analysis::Channel>) -> AnalysisAnswered
+        ensures { result ≡ analysis_answered answered }
+    {
         AnalysisAnswered {
             number: Verdict::from(answered.told).number,
             channel: answered.channel,
@@ -49,7 +51,9 @@ impl From<Answered<synthesis::Channel>> for SynthesisCleared {
     ghost from_gives = { λ answered given. given ≡ synthesis_answered answered };
 
     // Entry. The number of an answer, and its channel.
-    fn from(answered: Answered<synthesis::Channel>) -> SynthesisCleared {
+    fn from(answered: Answered<synthesis::Channel>) -> SynthesisCleared
+        ensures { result ≡ synthesis_answered answered }
+    {
         SynthesisCleared {
             number: Verdict::from(answered.told).number,
             channel: answered.channel,
@@ -79,7 +83,9 @@ impl From<Result<bool, Refusal>> for Measured {
     ghost from_gives = { λ told given. given ≡ measured told };
 
     // Entry. The numbers of an answer, and its flag.
-    fn from(told: Result<bool, Refusal>) -> Measured {
+    fn from(told: Result<bool, Refusal>) -> Measured
+        ensures { result ≡ measured told }
+    {
         match told {
             Ok(flag) => Measured {
                 number: 0,
@@ -110,7 +116,9 @@ impl From<Result<Loudest, Refusal>> for LoudestHeard {
     ghost from_gives = { λ told given. given ≡ loudest_heard (heard_by told) };
 
     // Entry. The numbers of an answer, and its band.
-    fn from(told: Result<Loudest, Refusal>) -> LoudestHeard {
+    fn from(told: Result<Loudest, Refusal>) -> LoudestHeard
+        ensures { result ≡ loudest_heard (heard_by told) }
+    {
         let quiet = LoudestHeard {
             number: 0,
             index: 0,
@@ -149,7 +157,9 @@ impl From<Result<Sooner, Refusal>> for Asked {
     ghost from_gives = { λ told given. given ≡ nyquist_asked (asked_by told) };
 
     // Entry. The numbers of an answer, and what it says.
-    fn from(told: Result<Sooner, Refusal>) -> Asked {
+    fn from(told: Result<Sooner, Refusal>) -> Asked
+        ensures { result ≡ nyquist_asked (asked_by told) }
+    {
         match told {
             Ok(Sooner { answer, read }) => Asked {
                 number: 0,

@@ -35,6 +35,7 @@ use Rattle.config.specs.contracts.is_fft_size
 use Rattle.config.specs.contracts.is_dct_length
 use Rattle.refusals.specs.contracts.Refusal.number
 use Rattle.refusals.specs.contracts.Refusal.index
+use Rattle.refusals.specs.contracts.VerdictFromResultUnitRefusal.from as verdict_from
 use Rattle.refusals.specs.contracts.on_clear
 use Rattle.refusals.specs.contracts.on_values
 use Rattle.refusals.specs.contracts.on_energies
@@ -94,6 +95,11 @@ use Rattle.call_text.specs.contracts.put_show
 use Rattle.call_text.specs.contracts.put_last
 use Rattle.call_made.specs.contracts.fresh
 use Rattle.call_made.specs.contracts.Bench.made
+use Rattle.c_api.specs.contracts.AnalysisAnsweredFromAnsweredAnalysisChannel.from as analysis_answered_from
+use Rattle.c_api.specs.contracts.SynthesisClearedFromAnsweredSynthesisChannel.from as synthesis_cleared_from
+use Rattle.c_api.specs.contracts.MeasuredFromResultBoolRefusal.from as measured_from
+use Rattle.c_api.specs.contracts.LoudestHeardFromResultLoudestRefusal.from as loudest_heard_from
+use Rattle.c_api.specs.contracts.AskedFromResultSoonerRefusal.from as asked_from
 use Rattle.c_api.specs.contracts.loamscarf_fft
 use Rattle.c_api.specs.contracts.loamscarf_dct_iv
 use Rattle.c_api.specs.contracts.loamscarf_analysis_clear
@@ -178,6 +184,7 @@ pub record Entries (w : World) : Type 1 where
   -- refusals
   pub number : Entry w number.ended number.clauses
   pub index : Entry w index.ended index.clauses
+  pub verdict_from : Entry w verdict_from.ended verdict_from.clauses
   pub on_clear : Entry w on_clear.ended on_clear.clauses
   pub on_values : Entry w on_values.ended on_values.clauses
   pub on_energies : Entry w on_energies.ended on_energies.clauses
@@ -259,7 +266,12 @@ pub record Entries (w : World) : Type 1 where
   -- call_made
   pub fresh : Entry w fresh.ended fresh.clauses
   pub made : Entry w made.ended made.clauses
-  -- c_api
+  -- c_api: what makes each of its structs from an answer, and the exports
+  pub analysis_answered_from : Entry w analysis_answered_from.ended analysis_answered_from.clauses
+  pub synthesis_cleared_from : Entry w synthesis_cleared_from.ended synthesis_cleared_from.clauses
+  pub measured_from : Entry w measured_from.ended measured_from.clauses
+  pub loudest_heard_from : Entry w loudest_heard_from.ended loudest_heard_from.clauses
+  pub asked_from : Entry w asked_from.ended asked_from.clauses
   pub c_fft : Entry w loamscarf_fft.ended loamscarf_fft.clauses
   pub c_dct_iv : Entry w loamscarf_dct_iv.ended loamscarf_dct_iv.clauses
   pub c_analysis_clear : Entry w loamscarf_analysis_clear.ended loamscarf_analysis_clear.clauses
