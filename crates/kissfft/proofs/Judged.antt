@@ -3,13 +3,13 @@ use mathlib.Core.Path.{◌≡◌, refl, sym, ap, ap₂, ◌∙◌}
 use mathlib.Core.Logic.{◌⊎◌, ⊎_elim}
 use mathlib.Core.Bool.{Bool, true, false, cond, ◌&&◌}
 use mathlib.Core.List.{List}
-use Prim.Native.Nat.{ℕ, ◌≤◌}
+use Prim.Native.Nat.{ℕ, ◌<◌, ◌≤◌}
 use native.Mathlib.Nat.{min-le_left, min-eq_left, min_comm}
 use native.Mathlib.Omega.{arith}
 use lib.Dec.{T, eqb, leb, leb→le, ltb}
 use lib.Ieee.{Float}
 use lib.ListN.{length}
-use borrow.Author.Tests.{eq-eqb, ne_eqb, lt-ltb, ltb-true, ltb-false}
+use borrow.Author.Tests.{eq-eqb, ne_eqb, lt-ltb, le-ltb, ltb-true, ltb-false}
 use Rattle.std.specs.Prelude.{min, Some, None}
 use Rattle.laws.specs.Lists.{first, failing}
 use Rattle.laws.specs.Passes.{passes6}
@@ -80,6 +80,15 @@ module _ (n : ℕ) (x y : List Float) (c d : ℕ) where
   pub says_4 : among fft_sizes n ≡ true → length x ≡ n → length y ≡ n → (eqb c n && eqb d n) ≡ false → says 4 0
   unfolding verdict number
   says_4 k ex ey e = rw (k, eq-eqb (length x) n ex, eq-eqb (length y) n ey, e)
+
+  module _ (k : among fft_sizes n ≡ true) (ex : length x ≡ n) (ey : length y ≡ n) (ec : c ≡ n) (ed : d ≡ n) where
+    pub says_6 : (i : ℕ) → i ≡ first_bad x y → i < n → says 6 i
+    unfolding verdict number
+    says_6 i e l = rw (e, k, eq-eqb (length x) n ex, eq-eqb (length y) n ey, eq-eqb c n ec, eq-eqb d n ed, lt-ltb (first_bad x y) n (rw e at l))
+
+    pub says_0 : (i : ℕ) → i ≡ first_bad x y → n ≤ i → says 0 0
+    unfolding verdict number
+    says_0 i e l = rw (k, eq-eqb (length x) n ex, eq-eqb (length y) n ey, eq-eqb c n ec, eq-eqb d n ed, le-ltb (first_bad x y) n (rw e at l))
 
   -- past them, by the first value that fails, if there is one
   pub says-rest : among fft_sizes n ≡ true → length x ≡ n → length y ≡ n → c ≡ n → d ≡ n → by_first bad_value (earlier (failing passes6 x) (failing passes6 y)) ≡ verdict n x y c d

@@ -1,12 +1,12 @@
 -- What `measures` says, case by case, as the code's tests have it. Assumes nothing.
 use mathlib.Core.Path.{◌≡◌, refl, sym, ap, ◌∙◌}
-use mathlib.Core.Bool.{Bool, false, not}
+use mathlib.Core.Bool.{Bool, true, false, not}
 use mathlib.Core.List.{List}
 use Prim.Native.Nat.{ℕ, zero, suc}
 use lib.Dec.{T, eqb, eqb→eq}
 use lib.ListN.{length}
 use lib.Ieee.{Float}
-use borrow.Author.Tests.{not-false, eq-eqb}
+use borrow.Author.Tests.{not-true, not-false, eq-eqb, ne_eqb}
 use Rattle.std.specs.Prelude.{⊤, Result, Ok, Err}
 use Rattle.config.specs.Config.{valid, nf, nb}
 use Rattle.refusals.specs.declared.Verdict.{Verdict}
@@ -16,10 +16,32 @@ use Rattle.refusals.proofs.Verdicts.{went_on, by_values}
 use Rattle.refusals.proofs.Verdicts as verdicts
 use Rattle.measurement.specs.Measurement.{energies_of, peaks_of, flag_of, Lent, Given, number, verdict, refused_by, measured, measures, outcome}
 
--- the verdict of a call whose lengths are right is that of its lines; v is what the code's test of the configuration gave
-module _ (c : ℕ) (x : Lent) {v : Bool} (e : v ≡ valid c) (h : not v ≡ false) (a : length x.lines ≡ nf c) (b : length x.energies ≡ nb c) where
-  pub says-rest : length x.peaks ≡ nb c → {w : Verdict} → w ≡ on_values x.lines → w ≡ verdict (number c x) x
-  says-rest d f = rw (sym e ∙ not-false v h, eq-eqb _ _ a, eq-eqb _ _ b, eq-eqb _ _ d) (f ∙ by_values x.lines)
+-- the verdict, from the tests one after the other; v is what the code's test of the configuration gave
+module _ (c : ℕ) (x : Lent) {v : Bool} (e : v ≡ valid c) where
+  abbrev Says : ℕ → ℕ → Type 0
+  Says n i = ◌≡◌ {A = Verdict} (record { number = n; index = i }) (verdict (number c x) x)
+
+  pub says_1 : not v ≡ true → Says 1 0
+  says_1 h = rw (sym e ∙ not-true v h)
+
+  module _ (h : not v ≡ false) where
+    ok : valid c ≡ true
+    ok = sym e ∙ not-false v h
+
+    pub says_3 : (length x.lines ≡ nf c → ⊥) → Says 3 0
+    says_3 a = rw (ok, ne_eqb _ _ a)
+
+    module _ (a : length x.lines ≡ nf c) where
+      pub says_5 : (length x.energies ≡ nb c → ⊥) → Says 5 0
+      says_5 b = rw (ok, eq-eqb _ _ a, ne_eqb _ _ b)
+
+      module _ (b : length x.energies ≡ nb c) where
+        pub says_5_too : (length x.peaks ≡ nb c → ⊥) → Says 5 0
+        says_5_too d = rw (ok, eq-eqb _ _ a, eq-eqb _ _ b, ne_eqb _ _ d)
+
+        -- the lengths are right: what is left is the verdict on the lines
+        pub says-rest : length x.peaks ≡ nb c → {w : Verdict} → w ≡ on_values x.lines → w ≡ verdict (number c x) x
+        says-rest d f = rw (ok, eq-eqb _ _ a, eq-eqb _ _ b, eq-eqb _ _ d) (f ∙ by_values x.lines)
 
 -- a refused call
 pub refused : (c : ℕ) (x : Lent) (r : Refusal) → told_by {A = ⊤} (Err r) ≡ verdict (number c x) x → outcome (Err r) x.energies x.peaks ≡ measures c x

@@ -7,7 +7,7 @@ use native.Mathlib.Omega.{arith}
 use lib.Dec.{T, eqb, ltb}
 use lib.ListN.{length}
 use lib.Ieee.{Float}
-use borrow.Author.Tests.{eq-eqb, eqb-true}
+use borrow.Author.Tests.{not-true, not-false, eq-eqb, ne_eqb, eqb-true}
 use Rattle.laws.specs.Lists.{first}
 use Rattle.laws.specs.Passes.{passes6}
 use Rattle.config.specs.Config.{valid, nf, ne}
@@ -17,6 +17,21 @@ use Rattle.refusals.proofs.Verdicts.{by_values}
 use Rattle.synthesis.specs.declared.Channel.{Channel}
 use Rattle.synthesis_samples.specs.Samples.{samples_of}
 use Rattle.synthesis.specs.Synthesis.{kept_of, channel_of, channel_past, Lent, Given, cleared_as, cleared, number, index, verdict, given, framed, frames}
+
+-- the number and the index, from the tests one after the other; v is what the code's test of the configuration gave
+module _ (c : ℕ) (x : Lent) {v : Bool} (e : v ≡ valid c) where
+  pub says_1 : not v ≡ true → (1 ≡ number c x) × (0 ≡ index 1 x)
+  says_1 h = (simp (sym e ∙ not-true v h), refl)
+
+  module _ (h : not v ≡ false) where
+    ok : valid c ≡ true
+    ok = sym e ∙ not-false v h
+
+    pub says_3 : (length x.lines ≡ ne c → ⊥) → (3 ≡ number c x) × (0 ≡ index 3 x)
+    says_3 a = (simp (ok, ne_eqb _ _ a), refl)
+
+    pub says_4 : length x.lines ≡ ne c → (length x.samples ≡ nf c → ⊥) → (4 ≡ number c x) × (0 ≡ index 4 x)
+    says_4 a b = (simp (ok, eq-eqb _ _ a, ne_eqb _ _ b), refl)
 
 -- the verdict of a call that has passed all tests but the last
 pub says-rest : (c : ℕ) (x : Lent) → valid c ≡ true → length x.lines ≡ ne c → length x.samples ≡ nf c → {w : Verdict} → w ≡ on_values x.lines → w ≡ verdict c x
