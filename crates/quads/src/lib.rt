@@ -98,7 +98,7 @@ impl Radix<2> for Radix2 {
     fn part(self, q: usize) -> usize
         ensures { result ≡ q }
     {
-        q
+        q // both in turn
     }
 }
 
@@ -128,7 +128,7 @@ impl Radix<3> for Radix3 {
     fn part(self, q: usize) -> usize
         ensures { result ≡ q }
     {
-        q
+        q // the three in turn
     }
 }
 
