@@ -1,4 +1,4 @@
-// The four butterflies of the transform on the block that begins where their slices begin: in place, but for radix 5, whose five numbers come by value.
+// The butterflies of the transform on the block that begins where their slices begin: in place, but for radix 5, whose five numbers come by value.
 // Ported from src/common/kissfft.rs of lc3-codec 0.2.0, and changed: real and imaginary parts in slices of their own, the twiddles lent, a stage's one beside
 // the other. Four columns are turned at a time, a crate below this one; the arithmetic of a column is another.
 

@@ -157,7 +157,7 @@ pub fn transform(
 }
 
 // Inner. The same of ten numbers, forward. Their plan has one stage above the two innermost, and all is written out, with no plan to read: the compiler puts it
-// into its one caller, where it knows every place, and keeps the numbers in registers. `fives2`, called from here as well, it would leave out of the stage that calls itself.
+// into its one caller, where it knows every place, and keeps the numbers in registers. `fives`, called from here as well, it would leave out of the stage that calls itself.
 pub fn transform_10(re: &mut [f32], im: &mut [f32], x: &[f32], y: &[f32], tr: &[f32], ti: &[f32])
     requires { (length x.now ≡ 10) × (length y.now ≡ 10) × (length tr.now ≡ 9) × (length ti.now ≡ 9) × (length re.old ≡ 10) × (length im.old ≡ 10) }
     ensures { PackedTransformed false tr.now ti.now x.now y.now re.new im.new }

@@ -23,8 +23,8 @@ pub fn passes_7(x: f32) -> bool
     0.0 <= x && x < f32::INFINITY
 }
 
-// Whether every value passes 6: the first that does not is past the end. It reads on after a
-// failure, so that several values are tested at once.
+// Whether every value passes 6. It reads on after a failure, so that several values are tested at
+// once.
 fn all_pass_6(x: &[f32]) -> bool
     ensures { result ≡ fold (λ all v. passes6 v && all) true x.now }
 {

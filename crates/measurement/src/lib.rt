@@ -22,7 +22,7 @@ fn is_near_nyquist(c: u8, energies: &[f32]) -> bool
     measurement_steps::exceeds(energies, energies.len() - config::upper(c))
 }
 
-// The energies and peaks of the lines. Where there are as many bands as lines each has one, and the edges, whose table costs more than the energies, are not needed.
+// The energies and peaks of the lines. Where there are as many bands as lines each has one, and the edges are not needed.
 fn apply_energy_estimation(c: u8, lines: &[f32], energies: &mut [f32], peaks: &mut [usize])
     requires { T (valid c) × (length lines.now ≡ nf c) × (length energies.old ≡ nb c) × (length peaks.old ≡ nb c) }
     ensures { (energies.new ≡ energies_of c lines.now) × (peaks.new ≡ peaks_of c lines.now) }

@@ -1,4 +1,4 @@
-// A synthesis frame in two steps, so that the DCT's tables and the window are not on the stack at once: the DCT of its lines, then its samples and memory.
+// A synthesis frame in two steps, so that the DCT's work areas and the frame's are not on the stack at once: the DCT of its lines, then its samples and memory.
 // Ported from src/decoder/modified_dct.rs of lc3-codec 0.2.0, and changed: the window and the work area are the caller's.
 
 #![tactic(auto)]
